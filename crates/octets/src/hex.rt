@@ -1,0 +1,14 @@
+// Octets as text: two capital hexadecimal digits each, with nothing between.
+use std::fmt;
+
+#[derive(Clone, Copy)]
+pub struct Hex<'a>(pub &'a [u8]);
+
+pub impl fmt::Display for Hex<'_> as HexDisplay {
+    fn fmt<W: fmt::Write>(&self, f: &mut fmt::Formatter<W>) -> fmt::Result {
+        for octet in self.0 {
+            write!(f, "{octet:02X}")?;
+        }
+        Ok(())
+    }
+}
