@@ -1,0 +1,4 @@
+pub mod Limits
+pub mod Headers
+pub mod Reading
+pub mod Telegrams

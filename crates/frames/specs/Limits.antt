@@ -1,0 +1,21 @@
+-- The limits on lengths, in octets. Assumes nothing.
+use Prim.Native.Nat.{ℕ}
+
+abbrev pub largest-frame : ℕ
+largest-frame = 512
+
+-- what a secure wrapper adds to its telegram
+abbrev pub wrapper-overhead : ℕ
+wrapper-overhead = 38
+
+abbrev pub largest-telegram : ℕ
+largest-telegram = 474
+
+abbrev pub smallest-wrapper : ℕ
+smallest-wrapper = 44
+
+abbrev pub request-length : ℕ
+request-length = 46
+
+abbrev pub notice-length : ℕ
+notice-length = 36

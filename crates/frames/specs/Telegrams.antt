@@ -1,0 +1,50 @@
+-- What a telegram is, the octets that a secure wrapper held. Assumes nothing.
+use mathlib.Core.List.{List}
+use mathlib.Core.Bool.{Bool, cond, not, _&&_}
+use Prim.Native.Nat.{ℕ}
+use lib.Dec.{leb, eqb}
+use lib.ListN.{length, getD}
+use denote.Ref.{now}
+use Rattle.std.specs.declared.option.Option.{Option}
+use Rattle.std.specs.declared.option.Option.the-variants.{Some, None}
+use Rattle.frames.specs.Limits.{largest-telegram}
+use Rattle.frames.specs.Headers.{part, headed, stated-length}
+use Rattle.frames.specs.declared.telegrams.Telegram.{Telegram}
+use Rattle.frames.specs.declared.telegrams.Telegram.the-variants.{Authenticate, Status, Good, Other}
+use Rattle.frames.specs.declared.telegrams.SignIn.{SignIn}
+
+-- begins 06 10 09 and then this octet
+abbrev pub begins-secure : ℕ → List ℕ → Bool
+begins-secure k t = leb 4 (length t) && eqb (getD t 0 0) 0x06 && eqb (getD t 1 0) 0x10 && eqb (getD t 2 0) 0x09 && eqb (getD t 3 0) k
+
+-- its true and its stated length are this
+abbrev pub long : ℕ → List ℕ → Bool
+long n t = eqb (length t) n && eqb (stated-length t) n
+
+-- session authenticate, whatever its length
+abbrev pub is-authenticate : List ℕ → Bool
+is-authenticate t = begins-secure 0x53 t
+
+abbrev pub is-status : List ℕ → Bool
+is-status t = begins-secure 0x54 t && long 8 t
+
+-- a telegram that may be delivered or sent: its family is not 09, the family of the secure frames
+abbrev pub is-good : List ℕ → Bool
+is-good t = headed t && leb (length t) largest-telegram && not (eqb (getD t 2 0) 0x09)
+
+abbrev pub good-family : List ℕ → Option ℕ
+good-family t = cond (is-good t) (Some (getD t 2 0)) None
+
+abbrev pub telegram-kind : List ℕ → Telegram
+telegram-kind t =
+    cond (is-authenticate t) Authenticate
+    (cond (is-status t) (Status (getD t 6 0))
+    (elim (good-family t) [ Some family ↦ Good family | None ↦ Other ]))
+
+-- the user and the MAC of a session authenticate that is well formed
+abbrev pub sign-in : List ℕ → Option (ℕ × List ℕ)
+sign-in t = cond (is-authenticate t && long 24 t && eqb (getD t 6 0) 0) (Some (getD t 7 0, part 16 8 t)) None
+
+abbrev pub signed : Option SignIn → Option (ℕ × List ℕ)
+signed (Some s) = Some (s .user, now (s .mac))
+signed None = None

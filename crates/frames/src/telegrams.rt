@@ -1,0 +1,65 @@
+// Telegrams: what the octets are that a secure wrapper held.
+ghost use Rattle.frames.specs.Telegrams.{good-family, sign-in, signed, telegram-kind};
+ghost use mathlib.Core.Path.{_≡_};
+use crate::LARGEST_TELEGRAM;
+use crate::headers::part_at;
+use crate::headers::stated_kind;
+
+#[derive(Clone, Copy, PartialEq, Eq)]
+pub enum Telegram {
+    Authenticate,
+    Status(u8),
+    // with its family
+    Good(u8),
+    Other,
+}
+
+// What a well formed session authenticate holds.
+#[derive(Clone, Copy)]
+pub struct SignIn<'a> {
+    pub user: u8,
+    pub mac: &'a [u8; 16],
+}
+
+// The family of a good telegram.
+pub fn family(telegram: &[u8]) -> Option<u8>
+    ensures { λ r. ⌜ r ≡ good-family (now (telegram .entry)) ⌝ }
+{
+    if telegram.len() > LARGEST_TELEGRAM {
+        return None;
+    }
+    stated_kind(telegram)?;
+    match telegram[2] {
+        0x09 => None,
+        family => Some(family),
+    }
+}
+
+pub fn classify(telegram: &[u8]) -> Telegram
+    ensures { λ r. ⌜ r ≡ telegram-kind (now (telegram .entry)) ⌝ }
+{
+    match telegram {
+        [0x06, 0x10, 0x09, 0x53, ..] => Telegram::Authenticate,
+        // the last octet is not read
+        [0x06, 0x10, 0x09, 0x54, 0, 8, status, _] => Telegram::Status(*status),
+        _ => match family(telegram) {
+            Some(family) => Telegram::Good(family),
+            None => Telegram::Other,
+        },
+    }
+}
+
+pub fn authenticate(telegram: &[u8]) -> Option<SignIn>
+    ensures { λ r. ⌜ signed r ≡ sign-in (now (telegram .entry)) ⌝ }
+{
+    let [0x06, 0x10, 0x09, 0x53, 0, 24, 0, user, mac @ ..] = telegram else {
+        return None;
+    };
+    if telegram.len() != 24 {
+        return None;
+    }
+    Some(SignIn {
+        user: *user,
+        mac: part_at(telegram, 8),
+    })
+}
