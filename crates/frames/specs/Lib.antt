@@ -2,3 +2,4 @@ pub mod Limits
 pub mod Headers
 pub mod Reading
 pub mod Telegrams
+pub mod Writing

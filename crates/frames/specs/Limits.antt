@@ -19,3 +19,9 @@ request-length = 46
 
 abbrev pub notice-length : ℕ
 notice-length = 36
+
+abbrev pub authenticate-length : ℕ
+authenticate-length = 24
+
+abbrev pub status-length : ℕ
+status-length = 8

@@ -7,8 +7,8 @@ use lib.ListN.{length, getD}
 use denote.Ref.{now}
 use Rattle.std.specs.declared.option.Option.{Option}
 use Rattle.std.specs.declared.option.Option.the-variants.{Some, None}
-use Rattle.frames.specs.Limits.{largest-telegram}
-use Rattle.frames.specs.Headers.{part, headed, stated-length}
+use Rattle.frames.specs.Limits.{largest-telegram, authenticate-length, status-length}
+use Rattle.frames.specs.Headers.{part, headed, stated-length, stated-kind}
 use Rattle.frames.specs.declared.telegrams.Telegram.{Telegram}
 use Rattle.frames.specs.declared.telegrams.Telegram.the-variants.{Authenticate, Status, Good, Other}
 use Rattle.frames.specs.declared.telegrams.SignIn.{SignIn}
@@ -17,16 +17,12 @@ use Rattle.frames.specs.declared.telegrams.SignIn.{SignIn}
 abbrev pub begins-secure : ℕ → List ℕ → Bool
 begins-secure k t = leb 4 (length t) && eqb (getD t 0 0) 0x06 && eqb (getD t 1 0) 0x10 && eqb (getD t 2 0) 0x09 && eqb (getD t 3 0) k
 
--- its true and its stated length are this
-abbrev pub long : ℕ → List ℕ → Bool
-long n t = eqb (length t) n && eqb (stated-length t) n
-
 -- session authenticate, whatever its length
 abbrev pub is-authenticate : List ℕ → Bool
 is-authenticate t = begins-secure 0x53 t
 
 abbrev pub is-status : List ℕ → Bool
-is-status t = begins-secure 0x54 t && long 8 t
+is-status t = begins-secure 0x54 t && eqb (length t) status-length && eqb (stated-length t) status-length
 
 -- a telegram that may be delivered or sent: its family is not 09, the family of the secure frames
 abbrev pub is-good : List ℕ → Bool
@@ -42,8 +38,11 @@ telegram-kind t =
     (elim (good-family t) [ Some family ↦ Good family | None ↦ Other ]))
 
 -- the user and the MAC of a session authenticate that is well formed
+abbrev pub well-formed : ℕ → List ℕ → Bool
+well-formed k t = eqb k 0x0953 && eqb (length t) authenticate-length && eqb (getD t 6 0) 0
+
 abbrev pub sign-in : List ℕ → Option (ℕ × List ℕ)
-sign-in t = cond (is-authenticate t && long 24 t && eqb (getD t 6 0) 0) (Some (getD t 7 0, part 16 8 t)) None
+sign-in t = elim (stated-kind t) [ Some k ↦ cond (well-formed k t) (Some (getD t 7 0, part 16 8 t)) None | None ↦ None ]
 
 abbrev pub signed : Option SignIn → Option (ℕ × List ℕ)
 signed (Some s) = Some (s .user, now (s .mac))

@@ -2,6 +2,7 @@
 pub mod headers;
 pub mod reading;
 pub mod telegrams;
+pub mod writing;
 
 // The limits on lengths, in octets.
 pub const LARGEST_FRAME: usize = 512;

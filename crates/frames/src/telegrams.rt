@@ -5,6 +5,9 @@ use crate::LARGEST_TELEGRAM;
 use crate::headers::part_at;
 use crate::headers::stated_kind;
 
+const AUTHENTICATE: u16 = 0x0953;
+const AUTHENTICATE_LENGTH: usize = 24;
+
 #[derive(Clone, Copy, PartialEq, Eq)]
 pub enum Telegram {
     Authenticate,
@@ -52,14 +55,12 @@ pub fn classify(telegram: &[u8]) -> Telegram
 pub fn authenticate(telegram: &[u8]) -> Option<SignIn>
     ensures { λ r. ⌜ signed r ≡ sign-in (now (telegram .entry)) ⌝ }
 {
-    let [0x06, 0x10, 0x09, 0x53, 0, 24, 0, user, mac @ ..] = telegram else {
-        return None;
-    };
-    if telegram.len() != 24 {
+    let kind = stated_kind(telegram)?;
+    if kind != AUTHENTICATE || telegram.len() != AUTHENTICATE_LENGTH || telegram[6] != 0 {
         return None;
     }
     Some(SignIn {
-        user: *user,
+        user: telegram[7],
         mac: part_at(telegram, 8),
     })
 }
