@@ -6,6 +6,7 @@ use crate::headers::part_at;
 use crate::headers::stated_kind;
 
 const AUTHENTICATE: u16 = 0x0953;
+
 const AUTHENTICATE_LENGTH: usize = 24;
 
 #[derive(Clone, Copy, PartialEq, Eq)]

@@ -1,5 +1,6 @@
 // Writing: the octets of the frames that go out.
-ghost use Prim.Native.Nat.{ℕ};
+ghost use Prim.Native.Nat.{_+_, _≤_};
+ghost use Rattle.frames.specs.Limits.{largest-frame};
 ghost use Rattle.frames.specs.Writing.{
   authenticate-lead,
   no-session,
@@ -14,6 +15,7 @@ ghost use Rattle.frames.specs.Writing.{
   wrapper-header,
 };
 ghost use lib.ListN.{length};
+ghost use mathlib.Core.List.{_++_};
 ghost use mathlib.Core.Path.{_≡_};
 
 // Number or time, serial and tag: what makes the nonce of a secure wrapper or a timer notify.
@@ -35,7 +37,28 @@ pub fn wrapper_header(size: u16, session: u16, number: u64, serial: u64, tag: u1
     let [i0, i1] = session.to_be_bytes();
     let [n0, n1, n2, n3, n4, n5, s0, s1, s2, s3, s4, s5, t0, t1] = nonce_of(number, serial, tag);
     [
-        0x06, 0x10, 0x09, 0x50, l0, l1, i0, i1, n0, n1, n2, n3, n4, n5, s0, s1, s2, s3, s4, s5, t0, t1,
+        0x06,
+        0x10,
+        0x09,
+        0x50,
+        l0,
+        l1,
+        i0,
+        i1,
+        n0,
+        n1,
+        n2,
+        n3,
+        n4,
+        n5,
+        s0,
+        s1,
+        s2,
+        s3,
+        s4,
+        s5,
+        t0,
+        t1,
     ]
 }
 
@@ -44,6 +67,12 @@ pub fn response_lead(session: u16) -> [u8; 8]
 {
     let [i0, i1] = session.to_be_bytes();
     [0x06, 0x10, 0x09, 0x52, 0x00, 0x38, i0, i1]
+}
+
+pub fn notice_lead() -> [u8; 6]
+    ensures { λ r. ⌜ r ≡ notice-lead ⌝ }
+{
+    [0x06, 0x10, 0x09, 0x55, 0x00, 0x24]
 }
 
 pub fn authenticate_lead(user: u8) -> [u8; 8]
@@ -80,22 +109,40 @@ pub fn refuse_session(out: &mut [u8]) -> Option<usize>
     put(b"\x06\x10\x09\x52\x00\x08\x00\x00", out)
 }
 
-pub fn response_of(session: u16, y: &[u8; 32], mac: &[u8; 16]) -> [u8; 56]
-    ensures { λ r. ⌜ r ≡ response session (now (y .entry)) (now (mac .entry)) ⌝ }
+// Puts three runs, one after the other, to the front of the output in the same way.
+fn put_parts(first: &[u8], second: &[u8], third: &[u8], out: &mut [u8]) -> Option<usize>
+    requires { ⌜ length (now first) + length (now second) + length (now third) ≤ largest-frame ⌝ }
+    ensures length { λ r. ⌜ r ≡ room (length (now (first .entry)) + length (now (second .entry)) + length (now (third .entry))) (now (out .entry)) ⌝ }
+    ensures out { λ _. ⌜ now (out .exit) ≡ put-over (now (first .entry) ++ now (second .entry) ++ now (third .entry)) (now (out .entry)) ⌝ }
 {
-    let mut frame = [0; 56];
-    frame[..8].copy_from_slice(&response_lead(session));
-    frame[8..40].copy_from_slice(y);
-    frame[40..].copy_from_slice(mac);
-    frame
+    let a = first.len();
+    let b = a + second.len();
+    let n = b + third.len();
+    if n > out.len() {
+        return None;
+    }
+    out[..a].copy_from_slice(first);
+    out[a..b].copy_from_slice(second);
+    out[b..n].copy_from_slice(third);
+    Some(n)
 }
 
-pub fn notice_of(time: u64, serial: u64, tag: u16, mac: &[u8; 16]) -> [u8; 36]
-    ensures { λ r. ⌜ r ≡ notice time serial tag (now (mac .entry)) ⌝ }
+pub fn write_response(session: u16, y: &[u8; 32], mac: &[u8; 16], out: &mut [u8]) -> Option<usize>
+    ensures length { λ r. ⌜ r ≡ room 56 (now (out .entry)) ⌝ }
+    ensures out { λ _. ⌜ now (out .exit) ≡ put-over (response session (now (y .entry)) (now (mac .entry))) (now (out .entry)) ⌝ }
 {
-    let mut frame = [0; 36];
-    frame[..6].copy_from_slice(b"\x06\x10\x09\x55\x00\x24");
-    frame[6..20].copy_from_slice(&nonce_of(time, serial, tag));
-    frame[20..].copy_from_slice(mac);
-    frame
+    put_parts(&response_lead(session), y, mac, out)
+}
+
+pub fn write_notice(
+    time: u64,
+    serial: u64,
+    tag: u16,
+    mac: &[u8; 16],
+    out: &mut [u8],
+) -> Option<usize>
+    ensures length { λ r. ⌜ r ≡ room 36 (now (out .entry)) ⌝ }
+    ensures out { λ _. ⌜ now (out .exit) ≡ put-over (notice time serial tag (now (mac .entry))) (now (out .entry)) ⌝ }
+{
+    put_parts(&notice_lead(), &nonce_of(time, serial, tag), mac, out)
 }
