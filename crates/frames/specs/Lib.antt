@@ -3,3 +3,4 @@ pub mod Headers
 pub mod Reading
 pub mod Telegrams
 pub mod Writing
+pub mod Laws

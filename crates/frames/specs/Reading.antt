@@ -6,6 +6,7 @@ use Prim.Native.Nat.{ℕ, _-_, _^_, _<_, _≤_}
 use lib.Dec.{leb, eqb}
 use lib.ListN.{length, getD, drop}
 use denote.Ref.{now}
+use Rattle.std.specs.declared.option.Option.{Option}
 use Rattle.std.specs.declared.option.Option.the-variants.{Some, None}
 use Rattle.std.specs.declared.result.Result.{Result}
 use Rattle.std.specs.declared.result.Result.the-variants.{Ok, Err}
@@ -56,9 +57,14 @@ by-kind k f =
     (cond (eqb k 0x0955) (if-fits (notice-fits f) (notice-shape f))
     (Err Kind)))
 
+-- the same with the kind that the header states, if the header is good
+abbrev pub by-header : Option ℕ → List ℕ → Result Shape Unreadable
+by-header None f = Err Header
+by-header (Some k) f = cond (leb (length f) largest-frame) (by-kind k f) (Err Header)
+
 -- what an octet string is
 abbrev pub reading : List ℕ → Result Shape Unreadable
-reading f = elim (stated-kind f) [ None ↦ Err Header | Some k ↦ cond (leb (length f) largest-frame) (by-kind k f) (Err Header) ]
+reading f = by-header (stated-kind f) f
 
 -- what the code answers, with lists for the parts of the frame that it lends
 abbrev pub shape : Frame → Shape

@@ -31,6 +31,10 @@ is-good t = headed t && leb (length t) largest-telegram && not (eqb (getD t 2 0)
 abbrev pub good-family : List ℕ → Option ℕ
 good-family t = cond (is-good t) (Some (getD t 2 0)) None
 
+abbrev pub good-or-other : Option ℕ → Telegram
+good-or-other (Some family) = Good family
+good-or-other None = Other
+
 abbrev pub telegram-kind : List ℕ → Telegram
 telegram-kind t =
     cond (is-authenticate t) Authenticate
@@ -41,8 +45,12 @@ telegram-kind t =
 abbrev pub well-formed : ℕ → List ℕ → Bool
 well-formed k t = eqb k 0x0953 && eqb (length t) authenticate-length && eqb (getD t 6 0) 0
 
+abbrev pub sign-in-of : Option ℕ → List ℕ → Option (ℕ × List ℕ)
+sign-in-of None t = None
+sign-in-of (Some k) t = cond (well-formed k t) (Some (getD t 7 0, part 16 8 t)) None
+
 abbrev pub sign-in : List ℕ → Option (ℕ × List ℕ)
-sign-in t = elim (stated-kind t) [ Some k ↦ cond (well-formed k t) (Some (getD t 7 0, part 16 8 t)) None | None ↦ None ]
+sign-in t = sign-in-of (stated-kind t) t
 
 abbrev pub signed : Option SignIn → Option (ℕ × List ℕ)
 signed (Some s) = Some (s .user, now (s .mac))

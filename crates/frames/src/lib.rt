@@ -4,6 +4,17 @@ pub mod reading;
 pub mod telegrams;
 pub mod writing;
 
+ghost use Rattle.frames.specs.Laws.{
+  Authenticate-read-back,
+  Good-is-apart,
+  Good-is-good,
+  No-session-read-back,
+  Notice-read-back,
+  Response-read-back,
+  Status-read-back,
+  Wrapper-read-back,
+};
+
 // The limits on lengths, in octets.
 pub const LARGEST_FRAME: usize = 512;
 
@@ -16,3 +27,19 @@ pub const WRAPPER_OVERHEAD: usize = 38;
 const REQUEST_LENGTH: usize = 46;
 
 const NOTICE_LENGTH: usize = 36;
+
+// What is written is read back with the parts that were put in; there is nothing to compute.
+pub fn read_back_laws_hold()
+    ensures wrapper { λ _. ⌜ Wrapper-read-back ⌝ }
+    ensures notice { λ _. ⌜ Notice-read-back ⌝ }
+    ensures response { λ _. ⌜ Response-read-back ⌝ }
+    ensures no_session { λ _. ⌜ No-session-read-back ⌝ }
+    ensures status { λ _. ⌜ Status-read-back ⌝ }
+    ensures authenticate { λ _. ⌜ Authenticate-read-back ⌝ }
+{}
+
+// A good telegram is told apart from session authenticate and session status.
+pub fn telegram_laws_hold()
+    ensures apart { λ _. ⌜ Good-is-apart ⌝ }
+    ensures good { λ _. ⌜ Good-is-good ⌝ }
+{}

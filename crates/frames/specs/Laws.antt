@@ -1,0 +1,61 @@
+-- What reading and writing owe each other. Assumes nothing.
+use mathlib.Core.Path.{_≡_}
+use mathlib.Core.List.{List, _++_}
+use mathlib.Core.Bool.{true}
+use mathlib.Core.Logic.{_≢_}
+use Prim.Native.Nat.{ℕ, _+_, _^_, _<_, _≤_}
+use lib.ListN.{length, getD}
+use Rattle.std.specs.declared.option.Option.the-variants.{Some}
+use Rattle.std.specs.declared.result.Result.the-variants.{Ok}
+use Rattle.octets.specs.Runs.{number}
+use Rattle.frames.specs.Limits.{largest-telegram, wrapper-overhead}
+use Rattle.frames.specs.Headers.{part, stated-kind}
+use Rattle.frames.specs.Reading.{reading, a-wrapper, a-notice}
+use Rattle.frames.specs.Telegrams.{is-good, telegram-kind, sign-in}
+use Rattle.frames.specs.Writing.{nonce, wrapper-lead, wrapper-header, notice-lead, notice, response, no-session, status, authenticate}
+use Rattle.frames.specs.declared.telegrams.Telegram.the-variants.{Authenticate, Status, Good}
+
+-- a secure wrapper that is read back has the parts that it was written with
+abbrev pub Wrapper-read-back : Type 0
+Wrapper-read-back =
+    (session count serial tag : ℕ) (c m : List ℕ)
+    → session < 2 ^ 16 → count < 2 ^ 48 → serial < 2 ^ 48 → tag < 2 ^ 16
+    → 6 ≤ length c → length c ≤ largest-telegram → length m ≡ 16
+    → reading (wrapper-header (length c + wrapper-overhead) session count serial tag ++ c ++ m)
+    ≡ Ok (a-wrapper session count serial tag (wrapper-lead (length c + wrapper-overhead) session) (nonce count serial tag) c m)
+
+abbrev pub Notice-read-back : Type 0
+Notice-read-back =
+    (time serial tag : ℕ) (m : List ℕ)
+    → time < 2 ^ 48 → serial < 2 ^ 48 → tag < 2 ^ 16 → length m ≡ 16
+    → reading (notice time serial tag m) ≡ Ok (a-notice time serial tag notice-lead (nonce time serial tag) m)
+
+-- a session response states its kind and its length, and holds its parts
+abbrev pub Response-read-back : Type 0
+Response-read-back =
+    (session : ℕ) (y m : List ℕ)
+    → session < 2 ^ 16 → length y ≡ 32 → length m ≡ 16
+    → (stated-kind (response session y m) ≡ Some 0x0952)
+    × (length (response session y m) ≡ 56)
+    × (number 2 6 (response session y m) ≡ session)
+    × (part 32 8 (response session y m) ≡ y)
+    × (part 16 40 (response session y m) ≡ m)
+
+abbrev pub No-session-read-back : Type 0
+No-session-read-back = (stated-kind no-session ≡ Some 0x0952) × (length no-session ≡ 8) × (number 2 6 no-session ≡ 0)
+
+abbrev pub Status-read-back : Type 0
+Status-read-back = (code : ℕ) → (stated-kind (status code) ≡ Some 0x0954) × (telegram-kind (status code) ≡ Status code)
+
+abbrev pub Authenticate-read-back : Type 0
+Authenticate-read-back =
+    (user : ℕ) (m : List ℕ) → length m ≡ 16
+    → (telegram-kind (authenticate user m) ≡ Authenticate) × (sign-in (authenticate user m) ≡ Some (user, m))
+
+-- a good telegram is never a session authenticate or a session status
+abbrev pub Good-is-apart : Type 0
+Good-is-apart = (t : List ℕ) → is-good t ≡ true → telegram-kind t ≡ Good (getD t 2 0)
+
+-- and what counts as good is
+abbrev pub Good-is-good : Type 0
+Good-is-good = (t : List ℕ) (family : ℕ) → telegram-kind t ≡ Good family → (is-good t ≡ true) × (family ≡ getD t 2 0) × (family ≢ 0x09)
