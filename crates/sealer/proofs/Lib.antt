@@ -1,0 +1,4 @@
+pub mod Masking
+pub mod Absorbed
+pub mod Sames
+pub mod Openings
