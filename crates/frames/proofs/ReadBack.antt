@@ -16,11 +16,11 @@ use Rattle.std.proofs.shelf.Tests.{le-leb}
 use Rattle.octets.specs.Numbers.{value, octets-of}
 use Rattle.octets.specs.Runs.{number}
 use Rattle.octets.proofs.Laws.{value-of-octets}
-use Rattle.frames.specs.Limits.{largest-telegram, wrapper-overhead}
+use Rattle.frames.specs.Limits.{wrapper-overhead}
 use Rattle.frames.specs.Headers.{part, kind, stated-length, stated-kind}
 use Rattle.frames.specs.Reading.{Shape, reading, by-header, wrapper-shape, notice-shape, a-wrapper, a-notice}
 use Rattle.frames.specs.Telegrams.{is-good, telegram-kind, sign-in, sign-in-of}
-use Rattle.frames.specs.Writing.{nonce, wrapper-lead, wrapper-header, notice-lead, notice, response, no-session, status, authenticate, authenticate-lead, response-lead}
+use Rattle.frames.specs.Writing.{nonce, wrapper-lead, notice-lead, notice, response, no-session, status, authenticate, authenticate-lead, response-lead}
 use Rattle.frames.specs.declared.telegrams.Telegram.the-variants.{Good}
 use Rattle.frames.specs.Laws as law
 
@@ -59,8 +59,9 @@ same-notice : (n n′ e e′ t t′ : ℕ) (a x m m′ : List ℕ) → n ≡ n�
 same-notice n n′ e e′ t t′ a x m m′ en ee et em = cc
 
 pub wrapper-read-back : law.Wrapper-read-back
+unfolding nonce wrapper-lead
 wrapper-read-back session count serial tag c m hs hc he ht low high lm =
-    let h = wrapper-header (length c + wrapper-overhead) session count serial tag in
+    let h = wrapper-lead (length c + wrapper-overhead) session ++ nonce count serial tag in
     let f = h ++ c ++ m in
     let lf : length f ≡ length c + 38 = length-append (h ++ c) m ∙ ap (λ n. n + length m) (length-append h c) ∙ omega arith in
     let st : stated-kind f ≡ Some 0x0950 = stated f (length c + 38) 0x0950 lf (omega arith) refl refl (two-back (length c + 38) (omega arith)) refl in
@@ -70,6 +71,7 @@ wrapper-read-back session count serial tag c m hs hc he ht low high lm =
     ∙ ap Ok (same-wrapper _ session _ count _ serial _ tag _ _ _ c _ m (two-back session hs) (six-back count hc) (six-back serial he) (two-back tag ht) ec em)
 
 pub notice-read-back : law.Notice-read-back
+unfolding nonce notice-lead
 notice-read-back time serial tag m hn he ht lm =
     let f = notice time serial tag m in
     let lf : length f ≡ 36 = length-append (notice-lead ++ nonce time serial tag) m ∙ omega arith in
@@ -78,6 +80,7 @@ notice-read-back time serial tag m hn he ht lm =
     reads-notice f st lf ∙ ap Ok (same-notice _ time _ serial _ tag _ _ _ m (six-back time hn) (six-back serial he) (two-back tag ht) em)
 
 pub response-read-back : law.Response-read-back
+unfolding response-lead
 response-read-back session y m hs ly lm =
     let h = response-lead session in
     let f = response session y m in
@@ -85,6 +88,7 @@ response-read-back session y m hs ly lm =
     (stated f 56 0x0952 lf (omega arith) refl refl refl refl, lf, two-back session hs, middle h y m 32 8 refl ly, end h y m 16 40 (omega arith) lm)
 
 pub authenticate-read-back : law.Authenticate-read-back
+unfolding authenticate-lead
 authenticate-read-back user m lm =
     let f = authenticate user m in
     let lf : length f ≡ 24 = length-append (authenticate-lead user) m ∙ omega arith in

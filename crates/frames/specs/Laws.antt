@@ -8,11 +8,12 @@ use lib.ListN.{length, getD}
 use Rattle.std.specs.declared.option.Option.the-variants.{Some}
 use Rattle.std.specs.declared.result.Result.the-variants.{Ok}
 use Rattle.octets.specs.Runs.{number}
-use Rattle.frames.specs.Limits.{largest-telegram, wrapper-overhead}
+use Rattle.sealer.specs.Limits.{largest-telegram}
+use Rattle.frames.specs.Limits.{wrapper-overhead}
 use Rattle.frames.specs.Headers.{part, stated-kind}
 use Rattle.frames.specs.Reading.{reading, a-wrapper, a-notice}
 use Rattle.frames.specs.Telegrams.{is-good, telegram-kind, sign-in}
-use Rattle.frames.specs.Writing.{nonce, wrapper-lead, wrapper-header, notice-lead, notice, response, no-session, status, authenticate}
+use Rattle.frames.specs.Writing.{nonce, wrapper-lead, notice-lead, notice, response, no-session, status, authenticate}
 use Rattle.frames.specs.declared.telegrams.Telegram.the-variants.{Authenticate, Status, Good}
 
 -- a secure wrapper that is read back has the parts that it was written with
@@ -21,7 +22,7 @@ Wrapper-read-back =
     (session count serial tag : ℕ) (c m : List ℕ)
     → session < 2 ^ 16 → count < 2 ^ 48 → serial < 2 ^ 48 → tag < 2 ^ 16
     → 6 ≤ length c → length c ≤ largest-telegram → length m ≡ 16
-    → reading (wrapper-header (length c + wrapper-overhead) session count serial tag ++ c ++ m)
+    → reading (wrapper-lead (length c + wrapper-overhead) session ++ nonce count serial tag ++ c ++ m)
     ≡ Ok (a-wrapper session count serial tag (wrapper-lead (length c + wrapper-overhead) session) (nonce count serial tag) c m)
 
 abbrev pub Notice-read-back : Type 0

@@ -1,4 +1,4 @@
--- The limits on lengths, in octets. Assumes nothing.
+-- The limits on lengths, in octets; the largest telegram is the sealer's. Assumes nothing.
 use Prim.Native.Nat.{ℕ}
 
 abbrev pub largest-frame : ℕ
@@ -7,9 +7,6 @@ largest-frame = 512
 -- what a secure wrapper adds to its telegram
 abbrev pub wrapper-overhead : ℕ
 wrapper-overhead = 38
-
-abbrev pub largest-telegram : ℕ
-largest-telegram = 474
 
 abbrev pub smallest-wrapper : ℕ
 smallest-wrapper = 44
@@ -25,3 +22,10 @@ authenticate-length = 24
 
 abbrev pub status-length : ℕ
 status-length = 8
+
+abbrev pub response-length : ℕ
+response-length = 56
+
+-- of the session response where no slot is free
+abbrev pub no-session-length : ℕ
+no-session-length = 8

@@ -11,7 +11,8 @@ use Rattle.std.specs.declared.option.Option.the-variants.{Some, None}
 use Rattle.std.specs.declared.result.Result.{Result}
 use Rattle.std.specs.declared.result.Result.the-variants.{Ok, Err}
 use Rattle.octets.specs.Runs.{number}
-use Rattle.frames.specs.Limits.{largest-frame, smallest-wrapper, wrapper-overhead, request-length, notice-length, largest-telegram}
+use Rattle.frames.specs.Limits.{largest-frame, smallest-wrapper, wrapper-overhead, request-length, notice-length}
+use Rattle.sealer.specs.Limits.{largest-telegram}
 use Rattle.frames.specs.Headers.{part, stated-kind}
 use Rattle.frames.specs.declared.reading.Frame.{Frame}
 use Rattle.frames.specs.declared.reading.Frame.the-variants.{Wrapper, Request, Notice}

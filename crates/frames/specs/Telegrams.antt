@@ -7,7 +7,8 @@ use lib.ListN.{length, getD}
 use denote.Ref.{now}
 use Rattle.std.specs.declared.option.Option.{Option}
 use Rattle.std.specs.declared.option.Option.the-variants.{Some, None}
-use Rattle.frames.specs.Limits.{largest-telegram, authenticate-length, status-length}
+use Rattle.sealer.specs.Limits.{largest-telegram}
+use Rattle.frames.specs.Limits.{authenticate-length, status-length}
 use Rattle.frames.specs.Headers.{part, headed, stated-length, stated-kind}
 use Rattle.frames.specs.declared.telegrams.Telegram.{Telegram}
 use Rattle.frames.specs.declared.telegrams.Telegram.the-variants.{Authenticate, Status, Good, Other}

@@ -1,6 +1,7 @@
 // Frames: what arrives is read in place, and what goes out is written into a lent buffer.
 pub mod headers;
 pub mod reading;
+pub mod sealing;
 pub mod telegrams;
 pub mod writing;
 
@@ -15,10 +16,8 @@ ghost use Rattle.frames.specs.Laws.{
   Wrapper-read-back,
 };
 
-// The limits on lengths, in octets.
+// The limits on lengths, in octets; the largest telegram is the sealer's.
 pub const LARGEST_FRAME: usize = 512;
-
-pub const LARGEST_TELEGRAM: usize = 474;
 
 pub const SMALLEST_WRAPPER: usize = 44;
 // What a secure wrapper adds to its telegram.

@@ -22,8 +22,10 @@ use crate::REQUEST_LENGTH;
 use crate::SMALLEST_WRAPPER;
 use crate::headers::part_at;
 use crate::headers::stated_kind;
+use cipher::Block;
 use octets::numbers::u16_at;
 use octets::numbers::u48_at;
+use sealer::Nonce;
 
 const WRAPPER: u16 = 0x0950;
 
@@ -41,9 +43,9 @@ pub enum Frame<'a> {
         serial: u64,
         tag: u16,
         associated: &'a [u8; 8],
-        nonce: &'a [u8; 14],
+        nonce: &'a Nonce,
         ciphertext: &'a [u8],
-        mac: &'a [u8; 16],
+        mac: &'a Block,
     },
     Request {
         x: &'a [u8; 32],
@@ -53,8 +55,8 @@ pub enum Frame<'a> {
         serial: u64,
         tag: u16,
         associated: &'a [u8; 6],
-        nonce: &'a [u8; 14],
-        mac: &'a [u8; 16],
+        nonce: &'a Nonce,
+        mac: &'a Block,
     },
 }
 

@@ -1,9 +1,10 @@
 // Telegrams: what the octets are that a secure wrapper held.
 ghost use Rattle.frames.specs.Telegrams.{good-family, sign-in, signed, telegram-kind};
 ghost use mathlib.Core.Path.{_≡_};
-use crate::LARGEST_TELEGRAM;
 use crate::headers::part_at;
 use crate::headers::stated_kind;
+use cipher::Block;
+use sealer::LARGEST_TELEGRAM;
 
 const AUTHENTICATE: u16 = 0x0953;
 
@@ -22,7 +23,7 @@ pub enum Telegram {
 #[derive(Clone, Copy)]
 pub struct SignIn<'a> {
     pub user: u8,
-    pub mac: &'a [u8; 16],
+    pub mac: &'a Block,
 }
 
 // The family of a good telegram.
