@@ -1,5 +1,5 @@
 // Frames: what arrives is read in place, and what goes out is written into a lent buffer.
-pub mod headers;
+mod headers;
 pub mod reading;
 pub mod sealing;
 pub mod telegrams;
