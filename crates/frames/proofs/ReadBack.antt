@@ -13,6 +13,7 @@ use Rattle.std.specs.declared.result.Result.the-variants.{Ok, Err}
 use Rattle.std.proofs.shelf.Lists.{append-assoc, length-append, take-at, drop-at, take-all}
 use Rattle.std.proofs.shelf.Ways.{tells}
 use Rattle.std.proofs.shelf.Tests.{le-leb}
+use Rattle.sealer.specs.Sealing.{Sealed, Openings, Long, Complete}
 use Rattle.octets.specs.Numbers.{value, octets-of}
 use Rattle.octets.specs.Runs.{number}
 use Rattle.octets.proofs.Laws.{value-of-octets}
@@ -58,17 +59,40 @@ same-wrapper s s′ n n′ e e′ t t′ a x c c′ m m′ es en ee et ec em = c
 same-notice : (n n′ e e′ t t′ : ℕ) (a x m m′ : List ℕ) → n ≡ n′ → e ≡ e′ → t ≡ t′ → m ≡ m′ → a-notice n e t a x m ≡ a-notice n′ e′ t′ a x m′
 same-notice n n′ e e′ t t′ a x m m′ en ee et em = cc
 
-pub wrapper-read-back : law.Wrapper-read-back
+-- a wrapper of any stated size that is its own
+wrapper-back : (z session count serial tag : ℕ) (c m : List ℕ)
+    → z ≡ length c + wrapper-overhead → session < 2 ^ 16 → count < 2 ^ 48 → serial < 2 ^ 48 → tag < 2 ^ 16
+    → 6 ≤ length c → length c ≤ 474 → length m ≡ 16
+    → reading (wrapper-lead z session ++ nonce count serial tag ++ c ++ m) ≡ Ok (a-wrapper session count serial tag (wrapper-lead z session) (nonce count serial tag) c m)
 unfolding nonce wrapper-lead
-wrapper-read-back session count serial tag c m hs hc he ht low high lm =
-    let h = wrapper-lead (length c + wrapper-overhead) session ++ nonce count serial tag in
+wrapper-back z session count serial tag c m ez hs hc he ht low high lm =
+    let h = wrapper-lead z session ++ nonce count serial tag in
     let f = h ++ c ++ m in
-    let lf : length f ≡ length c + 38 = length-append (h ++ c) m ∙ ap (λ n. n + length m) (length-append h c) ∙ omega arith in
-    let st : stated-kind f ≡ Some 0x0950 = stated f (length c + 38) 0x0950 lf (omega arith) refl refl (two-back (length c + 38) (omega arith)) refl in
+    let lf : length f ≡ z = length-append (h ++ c) m ∙ ap (λ n. n + length m) (length-append h c) ∙ omega arith in
+    let st : stated-kind f ≡ Some 0x0950 = stated f z 0x0950 lf (omega arith) refl refl (two-back z (omega arith)) refl in
     let ec = middle h c m (length f - 38) 22 refl (omega arith) in
     let em = end h c m 16 (length f - 16) (omega arith) lm in
     reads-wrapper f st (omega arith) (omega arith)
     ∙ ap Ok (same-wrapper _ session _ count _ serial _ tag _ _ _ c _ m (two-back session hs) (six-back count hc) (six-back serial he) (two-back tag ht) ec em)
+
+pub wrapper-read-back : law.Wrapper-read-back
+wrapper-read-back session count serial tag c m = wrapper-back (length c + wrapper-overhead) session count serial tag c m refl
+
+-- the same under other names for what stands before the ciphertext
+renamed : (ciphertext mac : Sealed) (key t l l′ n n′ f : List ℕ) (session count serial tag : ℕ) → l ≡ l′ → n ≡ n′
+    → reading f ≡ Ok (a-wrapper session count serial tag l′ n′ (ciphertext key n′ l′ t) (mac key n′ l′ t))
+    → reading f ≡ Ok (a-wrapper session count serial tag l n (ciphertext key n l t) (mac key n l t))
+renamed ciphertext mac key t l l′ n n′ f session count serial tag el en e = rw (el, en) e
+
+pub sealed-read-back : (ciphertext mac : Sealed) (opened : Openings) → Long ciphertext → Complete ciphertext mac opened → law.Sealed-read-back ciphertext mac opened
+sealed-read-back ciphertext mac opened long complete key session count serial tag t l n hs hc he ht low high el en lm =
+    let l′ = wrapper-lead (length t + wrapper-overhead) session in
+    let n′ = nonce count serial tag in
+    let c = ciphertext key n′ l′ t in
+    let lc : length c ≡ length t = long key n′ l′ t in
+    let lm′ : length (mac key n′ l′ t) ≡ 16 = rw (← el, ← en) lm in
+    let back = wrapper-back (length t + wrapper-overhead) session count serial tag c (mac key n′ l′ t) (omega arith) hs hc he ht (omega arith) (omega arith) lm′ in
+    (renamed ciphertext mac key t l l′ n n′ (l′ ++ n′ ++ c ++ mac key n′ l′ t) session count serial tag el en back, complete key n l t)
 
 pub notice-read-back : law.Notice-read-back
 unfolding nonce notice-lead

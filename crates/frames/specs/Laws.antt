@@ -9,9 +9,11 @@ use Rattle.std.specs.declared.option.Option.the-variants.{Some}
 use Rattle.std.specs.declared.result.Result.the-variants.{Ok}
 use Rattle.octets.specs.Runs.{number}
 use Rattle.sealer.specs.Limits.{largest-telegram}
+use Rattle.sealer.specs.Sealing.{Sealed, Openings}
 use Rattle.frames.specs.Limits.{wrapper-overhead}
 use Rattle.frames.specs.Headers.{part, stated-kind}
 use Rattle.frames.specs.Reading.{reading, a-wrapper, a-notice}
+use Rattle.frames.specs.Sealing.{wrapper}
 use Rattle.frames.specs.Telegrams.{is-good, telegram-kind, sign-in}
 use Rattle.frames.specs.Writing.{nonce, wrapper-lead, notice-lead, notice, response, no-session, status, authenticate}
 use Rattle.frames.specs.declared.telegrams.Telegram.the-variants.{Authenticate, Status, Good}
@@ -24,6 +26,16 @@ Wrapper-read-back =
     → 6 ≤ length c → length c ≤ largest-telegram → length m ≡ 16
     → reading (wrapper-lead (length c + wrapper-overhead) session ++ nonce count serial tag ++ c ++ m)
     ≡ Ok (a-wrapper session count serial tag (wrapper-lead (length c + wrapper-overhead) session) (nonce count serial tag) c m)
+
+-- one that was sealed is read back with the parts that the sealer made, and these open to the telegram
+abbrev pub Sealed-read-back : Sealed → Sealed → Openings → Type 0
+Sealed-read-back ciphertext mac opened =
+    (key : List ℕ) (session count serial tag : ℕ) (t l n : List ℕ)
+    → session < 2 ^ 16 → count < 2 ^ 48 → serial < 2 ^ 48 → tag < 2 ^ 16
+    → 6 ≤ length t → length t ≤ largest-telegram
+    → l ≡ wrapper-lead (length t + wrapper-overhead) session → n ≡ nonce count serial tag → length (mac key n l t) ≡ 16
+    → (reading (wrapper ciphertext mac key session count serial tag t) ≡ Ok (a-wrapper session count serial tag l n (ciphertext key n l t) (mac key n l t)))
+    × (opened key n l (ciphertext key n l t) (mac key n l t) ≡ Some t)
 
 abbrev pub Notice-read-back : Type 0
 Notice-read-back =

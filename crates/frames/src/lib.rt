@@ -12,9 +12,11 @@ ghost use Rattle.frames.specs.Laws.{
   No-session-read-back,
   Notice-read-back,
   Response-read-back,
+  Sealed-read-back,
   Status-read-back,
   Wrapper-read-back,
 };
+use sealer::Sealer;
 
 // The limits on lengths, in octets; the largest telegram is the sealer's.
 pub const LARGEST_FRAME: usize = 512;
@@ -35,6 +37,11 @@ pub fn read_back_laws_hold()
     ensures no_session { λ _. ⌜ No-session-read-back ⌝ }
     ensures status { λ _. ⌜ Status-read-back ⌝ }
     ensures authenticate { λ _. ⌜ Authenticate-read-back ⌝ }
+{}
+
+// What a sealer sealed into a wrapper is read back, and opens to the telegram.
+pub fn sealed_laws_hold<S: Sealer>()
+    ensures { λ _. ⌜ Sealed-read-back (S·Sealer .ciphertext) (S·Sealer .mac) (S·Sealer .opened) ⌝ }
 {}
 
 // A good telegram is told apart from session authenticate and session status.
