@@ -10,7 +10,7 @@ use Rattle.std.specs.declared.result.Result.the-variants.{Ok}
 use Rattle.octets.specs.Runs.{number}
 use Rattle.sealer.specs.Limits.{largest-telegram}
 use Rattle.sealer.specs.Sealing.{Sealed, Openings}
-use Rattle.frames.specs.Limits.{wrapper-overhead}
+use Rattle.frames.specs.Limits.{response-kind, status-kind, wrapper-overhead, response-length, no-session-length}
 use Rattle.frames.specs.Headers.{part, stated-kind}
 use Rattle.frames.specs.Reading.{reading, a-wrapper, a-notice}
 use Rattle.frames.specs.Sealing.{wrapper}
@@ -48,17 +48,17 @@ abbrev pub Response-read-back : Type 0
 Response-read-back =
     (session : ℕ) (y m : List ℕ)
     → session < 2 ^ 16 → length y ≡ 32 → length m ≡ 16
-    → (stated-kind (response session y m) ≡ Some 0x0952)
-    × (length (response session y m) ≡ 56)
+    → (stated-kind (response session y m) ≡ Some response-kind)
+    × (length (response session y m) ≡ response-length)
     × (number 2 6 (response session y m) ≡ session)
     × (part 32 8 (response session y m) ≡ y)
     × (part 16 40 (response session y m) ≡ m)
 
 abbrev pub No-session-read-back : Type 0
-No-session-read-back = (stated-kind no-session ≡ Some 0x0952) × (length no-session ≡ 8) × (number 2 6 no-session ≡ 0)
+No-session-read-back = (stated-kind no-session ≡ Some response-kind) × (length no-session ≡ no-session-length) × (number 2 6 no-session ≡ 0)
 
 abbrev pub Status-read-back : Type 0
-Status-read-back = (code : ℕ) → (stated-kind (status code) ≡ Some 0x0954) × (telegram-kind (status code) ≡ Status code)
+Status-read-back = (code : ℕ) → (stated-kind (status code) ≡ Some status-kind) × (telegram-kind (status code) ≡ Status code)
 
 abbrev pub Authenticate-read-back : Type 0
 Authenticate-read-back =

@@ -1,5 +1,23 @@
--- The limits on lengths, in octets; the largest telegram is the sealer's. Assumes nothing.
+-- The kinds of frames, and the limits on lengths in octets; the largest telegram is the sealer's. Assumes nothing.
 use Prim.Native.Nat.{ℕ}
+
+abbrev pub wrapper-kind : ℕ
+wrapper-kind = 0x0950
+
+abbrev pub request-kind : ℕ
+request-kind = 0x0951
+
+abbrev pub response-kind : ℕ
+response-kind = 0x0952
+
+abbrev pub authenticate-kind : ℕ
+authenticate-kind = 0x0953
+
+abbrev pub status-kind : ℕ
+status-kind = 0x0954
+
+abbrev pub notice-kind : ℕ
+notice-kind = 0x0955
 
 abbrev pub largest-frame : ℕ
 largest-frame = 512

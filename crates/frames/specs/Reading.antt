@@ -11,7 +11,7 @@ use Rattle.std.specs.declared.option.Option.the-variants.{Some, None}
 use Rattle.std.specs.declared.result.Result.{Result}
 use Rattle.std.specs.declared.result.Result.the-variants.{Ok, Err}
 use Rattle.octets.specs.Runs.{number}
-use Rattle.frames.specs.Limits.{largest-frame, smallest-wrapper, wrapper-overhead, request-length, notice-length}
+use Rattle.frames.specs.Limits.{wrapper-kind, request-kind, notice-kind, largest-frame, smallest-wrapper, wrapper-overhead, request-length, notice-length}
 use Rattle.sealer.specs.Limits.{largest-telegram}
 use Rattle.frames.specs.Headers.{part, stated-kind}
 use Rattle.frames.specs.declared.reading.Frame.{Frame}
@@ -53,9 +53,9 @@ if-fits fits parts = cond fits (Ok parts) (Err Length)
 -- a frame whose header is good, by its kind
 abbrev pub by-kind : ℕ → List ℕ → Result Shape Unreadable
 by-kind k f =
-    cond (eqb k 0x0950) (if-fits (wrapper-fits f) (wrapper-shape f))
-    (cond (eqb k 0x0951) (if-fits (request-fits f) (request-shape f))
-    (cond (eqb k 0x0955) (if-fits (notice-fits f) (notice-shape f))
+    cond (eqb k wrapper-kind) (if-fits (wrapper-fits f) (wrapper-shape f))
+    (cond (eqb k request-kind) (if-fits (request-fits f) (request-shape f))
+    (cond (eqb k notice-kind) (if-fits (notice-fits f) (notice-shape f))
     (Err Kind)))
 
 -- the same with the kind that the header states, if the header is good

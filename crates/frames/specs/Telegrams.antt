@@ -8,7 +8,7 @@ use denote.Ref.{now}
 use Rattle.std.specs.declared.option.Option.{Option}
 use Rattle.std.specs.declared.option.Option.the-variants.{Some, None}
 use Rattle.sealer.specs.Limits.{largest-telegram}
-use Rattle.frames.specs.Limits.{authenticate-length, status-length}
+use Rattle.frames.specs.Limits.{authenticate-kind, authenticate-length, status-length}
 use Rattle.frames.specs.Headers.{part, headed, stated-length, stated-kind}
 use Rattle.frames.specs.declared.telegrams.Telegram.{Telegram}
 use Rattle.frames.specs.declared.telegrams.Telegram.the-variants.{Authenticate, Status, Good, Other}
@@ -44,7 +44,7 @@ telegram-kind t =
 
 -- the user and the MAC of a session authenticate that is well formed
 abbrev pub well-formed : ℕ → List ℕ → Bool
-well-formed k t = eqb k 0x0953 && eqb (length t) authenticate-length && eqb (getD t 6 0) 0
+well-formed k t = eqb k authenticate-kind && eqb (length t) authenticate-length && eqb (getD t 6 0) 0
 
 abbrev pub sign-in-of : Option ℕ → List ℕ → Option (ℕ × List ℕ)
 sign-in-of None t = None

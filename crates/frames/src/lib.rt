@@ -18,6 +18,19 @@ ghost use Rattle.frames.specs.Laws.{
 };
 use sealer::Sealer;
 
+// The kinds of frames.
+pub const WRAPPER: u16 = 0x0950;
+
+pub const REQUEST: u16 = 0x0951;
+
+pub const RESPONSE: u16 = 0x0952;
+
+pub const AUTHENTICATE: u16 = 0x0953;
+
+pub const STATUS: u16 = 0x0954;
+
+pub const NOTICE: u16 = 0x0955;
+
 // The limits on lengths, in octets; the largest telegram is the sealer's.
 pub const LARGEST_FRAME: usize = 512;
 
@@ -25,9 +38,17 @@ pub const SMALLEST_WRAPPER: usize = 44;
 // What a secure wrapper adds to its telegram.
 pub const WRAPPER_OVERHEAD: usize = 38;
 
-const REQUEST_LENGTH: usize = 46;
+pub const REQUEST_LENGTH: usize = 46;
 
-const NOTICE_LENGTH: usize = 36;
+pub const RESPONSE_LENGTH: u16 = 56;
+
+pub const NO_SESSION_LENGTH: usize = 8;
+
+pub const AUTHENTICATE_LENGTH: usize = 24;
+
+pub const STATUS_LENGTH: u16 = 8;
+
+pub const NOTICE_LENGTH: usize = 36;
 
 // What is written is read back with the parts that were put in; there is nothing to compute.
 pub fn read_back_laws_hold()

@@ -17,21 +17,18 @@ ghost use Rattle.frames.specs.Reading.{
 ghost use lib.ListN.{length};
 ghost use mathlib.Core.Path.{_≡_};
 use crate::LARGEST_FRAME;
+use crate::NOTICE;
 use crate::NOTICE_LENGTH;
+use crate::REQUEST;
 use crate::REQUEST_LENGTH;
 use crate::SMALLEST_WRAPPER;
+use crate::WRAPPER;
 use crate::headers::part_at;
 use crate::headers::stated_kind;
 use cipher::Block;
 use octets::numbers::u16_at;
 use octets::numbers::u48_at;
 use sealer::Nonce;
-
-const WRAPPER: u16 = 0x0950;
-
-const REQUEST: u16 = 0x0951;
-
-const NOTICE: u16 = 0x0955;
 
 // A frame that is read. Its parts are lent from the octets that arrived.
 // There is no case for other kinds: reading refuses them, so it could never come.

@@ -1,6 +1,6 @@
 // Sealing: the frames that go out with a MAC, and the MAC that a user's sign-in has to have.
 ghost use Prim.Native.Nat.{_+_, _≤_};
-ghost use Rattle.frames.specs.Limits.{wrapper-overhead};
+ghost use Rattle.frames.specs.Limits.{notice-length, response-length, wrapper-overhead};
 ghost use Rattle.frames.specs.Sealing.{
   authenticate-mac,
   exchange-data,
@@ -32,7 +32,7 @@ use sealer::Nonce;
 use sealer::Sealer;
 
 fn notify<S: Sealer>(key: &Block, lead: &[u8; 6], nonce: &Nonce, out: &mut [u8]) -> Option<usize>
-    ensures length { λ r. ⌜ r ≡ room 36 (now (out .entry)) ⌝ }
+    ensures length { λ r. ⌜ r ≡ room notice-length (now (out .entry)) ⌝ }
     ensures out { λ r. ⌜ now (out .exit) ≡ left r (notified (S·Sealer .mac) (now (key .entry)) (now (lead .entry)) (now (nonce .entry))) (now (out .entry)) ⌝ }
 {
     let mac = S::seal(key, nonce, lead, &mut []);
@@ -47,7 +47,7 @@ pub fn seal_notice<S: Sealer>(
     tag: u16,
     out: &mut [u8],
 ) -> Option<usize>
-    ensures length { λ r. ⌜ r ≡ room 36 (now (out .entry)) ⌝ }
+    ensures length { λ r. ⌜ r ≡ room notice-length (now (out .entry)) ⌝ }
     ensures out { λ r. ⌜ now (out .exit) ≡ left r (sealed-notice (S·Sealer .mac) (now (key .entry)) time serial tag) (now (out .entry)) ⌝ }
 {
     notify::<S>(key, &notice_lead(), &nonce_of(time, serial, tag), out)
@@ -88,7 +88,7 @@ fn respond<S: Sealer>(
     y: &[u8; 32],
     out: &mut [u8],
 ) -> Option<usize>
-    ensures length { λ r. ⌜ r ≡ room 56 (now (out .entry)) ⌝ }
+    ensures length { λ r. ⌜ r ≡ room response-length (now (out .entry)) ⌝ }
     ensures out { λ r. ⌜ now (out .exit) ≡ left r (responded (S·Sealer .mac) (now (key .entry)) (now (lead .entry)) (now (x .entry)) (now (y .entry))) (now (out .entry)) ⌝ }
 {
     let mac = mac_of_exchange::<S>(key, lead, x, y);
@@ -103,7 +103,7 @@ pub fn seal_response<S: Sealer>(
     y: &[u8; 32],
     out: &mut [u8],
 ) -> Option<usize>
-    ensures length { λ r. ⌜ r ≡ room 56 (now (out .entry)) ⌝ }
+    ensures length { λ r. ⌜ r ≡ room response-length (now (out .entry)) ⌝ }
     ensures out { λ r. ⌜ now (out .exit) ≡ left r (sealed-response (S·Sealer .mac) (now (key .entry)) session (now (x .entry)) (now (y .entry))) (now (out .entry)) ⌝ }
 {
     respond::<S>(key, &response_lead(session), x, y, out)

@@ -1,14 +1,12 @@
 // Telegrams: what the octets are that a secure wrapper held.
 ghost use Rattle.frames.specs.Telegrams.{good-family, sign-in, signed, telegram-kind};
 ghost use mathlib.Core.Path.{_≡_};
+use crate::AUTHENTICATE;
+use crate::AUTHENTICATE_LENGTH;
 use crate::headers::part_at;
 use crate::headers::stated_kind;
 use cipher::Block;
 use sealer::LARGEST_TELEGRAM;
-
-const AUTHENTICATE: u16 = 0x0953;
-
-const AUTHENTICATE_LENGTH: usize = 24;
 
 #[derive(Clone, Copy, PartialEq, Eq)]
 pub enum Telegram {

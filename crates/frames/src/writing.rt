@@ -1,6 +1,6 @@
 // Writing: the octets of the frames that go out.
 ghost use Prim.Native.Nat.{_+_, _≤_};
-ghost use Rattle.frames.specs.Limits.{largest-frame};
+ghost use Rattle.frames.specs.Limits.{largest-frame, no-session-length};
 ghost use Rattle.frames.specs.Writing.{
   authenticate-lead,
   header,
@@ -16,6 +16,14 @@ ghost use Rattle.frames.specs.Writing.{
 ghost use lib.ListN.{length};
 ghost use mathlib.Core.List.{[], _++_, _∷_};
 ghost use mathlib.Core.Path.{_≡_};
+use crate::AUTHENTICATE;
+use crate::AUTHENTICATE_LENGTH;
+use crate::NO_SESSION_LENGTH;
+use crate::RESPONSE;
+use crate::RESPONSE_LENGTH;
+use crate::STATUS;
+use crate::STATUS_LENGTH;
+use crate::WRAPPER;
 use octets::numbers::octets_of_u16;
 use octets::numbers::octets_of_u48;
 use sealer::Nonce;
@@ -34,20 +42,20 @@ pub(crate) fn wrapper_lead(size: u16, session: u16) -> [u8; 8]
     ensures { λ r. ⌜ r ≡ wrapper-lead size session ⌝ }
 {
     let [high, low] = octets_of_u16(session);
-    lead(0x0950, size, high, low)
+    lead(WRAPPER, size, high, low)
 }
 
 pub(crate) fn response_lead(session: u16) -> [u8; 8]
     ensures { λ r. ⌜ r ≡ response-lead session ⌝ }
 {
     let [high, low] = octets_of_u16(session);
-    lead(0x0952, 56, high, low)
+    lead(RESPONSE, RESPONSE_LENGTH, high, low)
 }
 
 pub(crate) fn authenticate_lead(user: u8) -> [u8; 8]
     ensures { λ r. ⌜ r ≡ authenticate-lead user ⌝ }
 {
-    lead(0x0953, 24, 0, user)
+    lead(AUTHENTICATE, AUTHENTICATE_LENGTH as u16, 0, user)
 }
 
 pub(crate) fn notice_lead() -> [u8; 6]
@@ -70,7 +78,7 @@ pub(crate) fn nonce_of(number: u64, serial: u64, tag: u16) -> Nonce
 pub fn status_telegram(code: u8) -> [u8; 8]
     ensures { λ r. ⌜ r ≡ status code ⌝ }
 {
-    lead(0x0954, 8, code, 0)
+    lead(STATUS, STATUS_LENGTH, code, 0)
 }
 
 // Puts three runs, one after the other, to the front of the output, and answers their length, or leaves the output as it is.
@@ -93,12 +101,13 @@ pub(crate) fn put_parts(first: &[u8], second: &[u8], third: &[u8], out: &mut [u8
 
 // The session response where no slot is free, if the output has the room.
 pub fn refuse_session(out: &mut [u8]) -> Option<usize>
-    ensures length { λ r. ⌜ r ≡ room 8 (now (out .entry)) ⌝ }
+    ensures length { λ r. ⌜ r ≡ room no-session-length (now (out .entry)) ⌝ }
     ensures out { λ r. ⌜ now (out .exit) ≡ left r no-session (now (out .entry)) ⌝ }
 {
-    if out.len() < 8 {
+    let n = NO_SESSION_LENGTH;
+    if out.len() < n {
         return None;
     }
-    out[..8].copy_from_slice(&lead(0x0952, 8, 0, 0));
-    Some(8)
+    out[..n].copy_from_slice(&lead(RESPONSE, n as u16, 0, 0));
+    Some(n)
 }
