@@ -43,6 +43,19 @@ Notice-read-back =
     → time < 2 ^ 48 → serial < 2 ^ 48 → tag < 2 ^ 16 → length m ≡ 16
     → reading (notice time serial tag m) ≡ Ok (a-notice time serial tag notice-lead (nonce time serial tag) m)
 
+-- a secure wrapper that is read is its parts, one after the other, and each has its length
+abbrev pub Wrapper-is-its-parts : Type 0
+Wrapper-is-its-parts =
+    (f : List ℕ) (session count serial tag : ℕ) (a n c m : List ℕ)
+    → reading f ≡ Ok (a-wrapper session count serial tag a n c m)
+    → (f ≡ a ++ n ++ c ++ m) × (length a ≡ 8) × (length n ≡ 14) × (6 ≤ length c) × (length c ≤ largest-telegram) × (length m ≡ 16)
+
+abbrev pub Notice-is-its-parts : Type 0
+Notice-is-its-parts =
+    (f : List ℕ) (time serial tag : ℕ) (a n m : List ℕ)
+    → reading f ≡ Ok (a-notice time serial tag a n m)
+    → (f ≡ a ++ n ++ m) × (length a ≡ 6) × (length n ≡ 14) × (length m ≡ 16)
+
 -- a session response states its kind and its length, and holds its parts
 abbrev pub Response-read-back : Type 0
 Response-read-back =

@@ -10,10 +10,12 @@ ghost use Rattle.frames.specs.Laws.{
   Good-is-apart,
   Good-is-good,
   No-session-read-back,
+  Notice-is-its-parts,
   Notice-read-back,
   Response-read-back,
   Sealed-read-back,
   Status-read-back,
+  Wrapper-is-its-parts,
   Wrapper-read-back,
 };
 use sealer::Sealer;
@@ -58,6 +60,12 @@ pub fn read_back_laws_hold()
     ensures no_session { λ _. ⌜ No-session-read-back ⌝ }
     ensures status { λ _. ⌜ Status-read-back ⌝ }
     ensures authenticate { λ _. ⌜ Authenticate-read-back ⌝ }
+{}
+
+// A frame that is read is its parts, one after the other.
+pub fn parts_laws_hold()
+    ensures wrapper { λ _. ⌜ Wrapper-is-its-parts ⌝ }
+    ensures notice { λ _. ⌜ Notice-is-its-parts ⌝ }
 {}
 
 // What a sealer sealed into a wrapper is read back, and opens to the telegram.
