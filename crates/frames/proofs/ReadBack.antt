@@ -13,13 +13,14 @@ use Rattle.std.specs.declared.result.Result.the-variants.{Ok, Err}
 use Rattle.std.proofs.shelf.Lists.{append-assoc, length-append, take-at, drop-at, take-all}
 use Rattle.std.proofs.shelf.Ways.{tells}
 use Rattle.std.proofs.shelf.Tests.{le-leb}
-use Rattle.sealer.specs.Sealing.{Sealed, Openings, Long, Complete}
+use Rattle.sealer.specs.Sealing.{Sealed, Openings, Long, Wide, Complete}
 use Rattle.octets.specs.Numbers.{value, octets-of}
 use Rattle.octets.specs.Runs.{number}
 use Rattle.octets.proofs.Laws.{value-of-octets}
 use Rattle.frames.specs.Limits.{wrapper-overhead}
 use Rattle.frames.specs.Headers.{part, kind, stated-length, stated-kind}
 use Rattle.frames.specs.Reading.{Shape, reading, by-header, wrapper-shape, notice-shape, a-wrapper, a-notice}
+use Rattle.frames.specs.Sealing.{exchange-mac, exchange-data, zero-nonce}
 use Rattle.frames.specs.Telegrams.{is-good, telegram-kind, sign-in, sign-in-of}
 use Rattle.frames.specs.Writing.{nonce, wrapper-lead, notice-lead, notice, response, no-session, status, authenticate, authenticate-lead, response-lead}
 use Rattle.frames.specs.declared.telegrams.Telegram.the-variants.{Good}
@@ -84,15 +85,15 @@ renamed : (ciphertext mac : Sealed) (key t l l′ n n′ f : List ℕ) (session 
     → reading f ≡ Ok (a-wrapper session count serial tag l n (ciphertext key n l t) (mac key n l t))
 renamed ciphertext mac key t l l′ n n′ f session count serial tag el en e = rw (el, en) e
 
-pub sealed-read-back : (ciphertext mac : Sealed) (opened : Openings) → Long ciphertext → Complete ciphertext mac opened → law.Sealed-read-back ciphertext mac opened
-sealed-read-back ciphertext mac opened long complete key session count serial tag t l n hs hc he ht low high el en lm =
+pub sealed-wrapper-read-back : (ciphertext mac : Sealed) (opened : Openings) → Long ciphertext → Wide mac → Complete ciphertext mac opened → law.Sealed-wrapper-read-back ciphertext mac opened
+sealed-wrapper-read-back ciphertext mac opened long wide complete key session count serial tag t l n lk hs hc he ht low high el en =
     let l′ = wrapper-lead (length t + wrapper-overhead) session in
     let n′ = nonce count serial tag in
     let c = ciphertext key n′ l′ t in
+    let m = mac key n′ l′ t in
     let lc : length c ≡ length t = long key n′ l′ t in
-    let lm′ : length (mac key n′ l′ t) ≡ 16 = rw (← el, ← en) lm in
-    let back = wrapper-back (length t + wrapper-overhead) session count serial tag c (mac key n′ l′ t) (omega arith) hs hc he ht (omega arith) (omega arith) lm′ in
-    (renamed ciphertext mac key t l l′ n n′ (l′ ++ n′ ++ c ++ mac key n′ l′ t) session count serial tag el en back, complete key n l t)
+    let back = wrapper-back (length t + wrapper-overhead) session count serial tag c m (omega arith) hs hc he ht (omega arith) (omega arith) (wide key n′ l′ t lk) in
+    (renamed ciphertext mac key t l l′ n n′ (l′ ++ n′ ++ c ++ m) session count serial tag el en back, complete key n l t)
 
 pub notice-read-back : law.Notice-read-back
 unfolding nonce notice-lead
@@ -110,6 +111,14 @@ response-read-back session y m hs ly lm =
     let f = response session y m in
     let lf : length f ≡ 56 = length-append (h ++ y) m ∙ ap (λ n. n + length m) (length-append h y) ∙ omega arith in
     (stated f 56 0x0952 lf (omega arith) refl refl refl refl, lf, two-back session hs, middle h y m 32 8 refl ly, end h y m 16 40 (omega arith) lm)
+
+pub sealed-notice-read-back : (mac : Sealed) → Wide mac → law.Sealed-notice-read-back mac
+sealed-notice-read-back mac wide key time serial tag lk hn he ht =
+    notice-read-back time serial tag (mac key (nonce time serial tag) notice-lead []) hn he ht (wide key (nonce time serial tag) notice-lead [] lk)
+
+pub sealed-response-read-back : (mac : Sealed) → Wide mac → law.Sealed-response-read-back mac
+sealed-response-read-back mac wide key session x y lk hs ly =
+    response-read-back session y (exchange-mac mac key (response-lead session) x y) hs ly (wide key zero-nonce (exchange-data (response-lead session) x y) [] lk)
 
 pub authenticate-read-back : law.Authenticate-read-back
 unfolding authenticate-lead

@@ -1,6 +1,6 @@
 -- What reading and writing owe each other. Assumes nothing.
 use mathlib.Core.Path.{_≡_}
-use mathlib.Core.List.{List, _++_}
+use mathlib.Core.List.{List, [], _++_}
 use mathlib.Core.Bool.{true}
 use mathlib.Core.Logic.{_≢_}
 use Prim.Native.Nat.{ℕ, _+_, _^_, _<_, _≤_}
@@ -13,9 +13,9 @@ use Rattle.sealer.specs.Sealing.{Sealed, Openings}
 use Rattle.frames.specs.Limits.{response-kind, status-kind, wrapper-overhead, response-length, no-session-length}
 use Rattle.frames.specs.Headers.{part, stated-kind}
 use Rattle.frames.specs.Reading.{reading, a-wrapper, a-notice}
-use Rattle.frames.specs.Sealing.{wrapper}
+use Rattle.frames.specs.Sealing.{wrapper, sealed-notice, sealed-response, exchange-mac}
 use Rattle.frames.specs.Telegrams.{is-good, telegram-kind, sign-in}
-use Rattle.frames.specs.Writing.{nonce, wrapper-lead, notice-lead, notice, response, no-session, status, authenticate}
+use Rattle.frames.specs.Writing.{nonce, wrapper-lead, notice-lead, notice, response-lead, response, no-session, status, authenticate}
 use Rattle.frames.specs.declared.telegrams.Telegram.the-variants.{Authenticate, Status, Good}
 
 -- a secure wrapper that is read back has the parts that it was written with
@@ -26,16 +26,6 @@ Wrapper-read-back =
     → 6 ≤ length c → length c ≤ largest-telegram → length m ≡ 16
     → reading (wrapper-lead (length c + wrapper-overhead) session ++ nonce count serial tag ++ c ++ m)
     ≡ Ok (a-wrapper session count serial tag (wrapper-lead (length c + wrapper-overhead) session) (nonce count serial tag) c m)
-
--- one that was sealed is read back with the parts that the sealer made, and these open to the telegram
-abbrev pub Sealed-read-back : Sealed → Sealed → Openings → Type 0
-Sealed-read-back ciphertext mac opened =
-    (key : List ℕ) (session count serial tag : ℕ) (t l n : List ℕ)
-    → session < 2 ^ 16 → count < 2 ^ 48 → serial < 2 ^ 48 → tag < 2 ^ 16
-    → 6 ≤ length t → length t ≤ largest-telegram
-    → l ≡ wrapper-lead (length t + wrapper-overhead) session → n ≡ nonce count serial tag → length (mac key n l t) ≡ 16
-    → (reading (wrapper ciphertext mac key session count serial tag t) ≡ Ok (a-wrapper session count serial tag l n (ciphertext key n l t) (mac key n l t)))
-    × (opened key n l (ciphertext key n l t) (mac key n l t) ≡ Some t)
 
 abbrev pub Notice-read-back : Type 0
 Notice-read-back =
@@ -56,16 +46,18 @@ Notice-is-its-parts =
     → reading f ≡ Ok (a-notice time serial tag a n m)
     → (f ≡ a ++ n ++ m) × (length a ≡ 6) × (length n ≡ 14) × (length m ≡ 16)
 
--- a session response states its kind and its length, and holds its parts
+-- octets that state the kind and the length of a session response, and hold these parts
+abbrev pub Is-response : List ℕ → ℕ → List ℕ → List ℕ → Type 0
+Is-response f session y m =
+    (stated-kind f ≡ Some response-kind)
+    × (length f ≡ response-length)
+    × (number 2 6 f ≡ session)
+    × (part 32 8 f ≡ y)
+    × (part 16 40 f ≡ m)
+
 abbrev pub Response-read-back : Type 0
 Response-read-back =
-    (session : ℕ) (y m : List ℕ)
-    → session < 2 ^ 16 → length y ≡ 32 → length m ≡ 16
-    → (stated-kind (response session y m) ≡ Some response-kind)
-    × (length (response session y m) ≡ response-length)
-    × (number 2 6 (response session y m) ≡ session)
-    × (part 32 8 (response session y m) ≡ y)
-    × (part 16 40 (response session y m) ≡ m)
+    (session : ℕ) (y m : List ℕ) → session < 2 ^ 16 → length y ≡ 32 → length m ≡ 16 → Is-response (response session y m) session y m
 
 abbrev pub No-session-read-back : Type 0
 No-session-read-back = (stated-kind no-session ≡ Some response-kind) × (length no-session ≡ no-session-length) × (number 2 6 no-session ≡ 0)
@@ -85,3 +77,26 @@ Good-is-apart = (t : List ℕ) → is-good t ≡ true → telegram-kind t ≡ Go
 -- and what counts as good is
 abbrev pub Good-is-good : Type 0
 Good-is-good = (t : List ℕ) (family : ℕ) → telegram-kind t ≡ Good family → (is-good t ≡ true) × (family ≡ getD t 2 0) × (family ≢ 0x09)
+
+-- what a sealer sealed into a wrapper is read back with the parts that the sealer made, and these open to the telegram
+abbrev pub Sealed-wrapper-read-back : Sealed → Sealed → Openings → Type 0
+Sealed-wrapper-read-back ciphertext mac opened =
+    (key : List ℕ) (session count serial tag : ℕ) (t l n : List ℕ)
+    → length key ≡ 16 → session < 2 ^ 16 → count < 2 ^ 48 → serial < 2 ^ 48 → tag < 2 ^ 16
+    → 6 ≤ length t → length t ≤ largest-telegram
+    → l ≡ wrapper-lead (length t + wrapper-overhead) session → n ≡ nonce count serial tag
+    → (reading (wrapper ciphertext mac key session count serial tag t) ≡ Ok (a-wrapper session count serial tag l n (ciphertext key n l t) (mac key n l t)))
+    × (opened key n l (ciphertext key n l t) (mac key n l t) ≡ Some t)
+
+abbrev pub Sealed-notice-read-back : Sealed → Type 0
+Sealed-notice-read-back mac =
+    (key : List ℕ) (time serial tag : ℕ)
+    → length key ≡ 16 → time < 2 ^ 48 → serial < 2 ^ 48 → tag < 2 ^ 16
+    → reading (sealed-notice mac key time serial tag)
+    ≡ Ok (a-notice time serial tag notice-lead (nonce time serial tag) (mac key (nonce time serial tag) notice-lead []))
+
+abbrev pub Sealed-response-read-back : Sealed → Type 0
+Sealed-response-read-back mac =
+    (key : List ℕ) (session : ℕ) (x y : List ℕ)
+    → length key ≡ 16 → session < 2 ^ 16 → length y ≡ 32
+    → Is-response (sealed-response mac key session x y) session y (exchange-mac mac key (response-lead session) x y)

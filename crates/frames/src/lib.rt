@@ -13,7 +13,9 @@ ghost use Rattle.frames.specs.Laws.{
   Notice-is-its-parts,
   Notice-read-back,
   Response-read-back,
-  Sealed-read-back,
+  Sealed-notice-read-back,
+  Sealed-response-read-back,
+  Sealed-wrapper-read-back,
   Status-read-back,
   Wrapper-is-its-parts,
   Wrapper-read-back,
@@ -68,9 +70,11 @@ pub fn parts_laws_hold()
     ensures notice { λ _. ⌜ Notice-is-its-parts ⌝ }
 {}
 
-// What a sealer sealed into a wrapper is read back, and opens to the telegram.
+// What a sealer sealed is read back, and a wrapper opens to its telegram.
 pub fn sealed_laws_hold<S: Sealer>()
-    ensures { λ _. ⌜ Sealed-read-back (S·Sealer .ciphertext) (S·Sealer .mac) (S·Sealer .opened) ⌝ }
+    ensures wrapper { λ _. ⌜ Sealed-wrapper-read-back (S·Sealer .ciphertext) (S·Sealer .mac) (S·Sealer .opened) ⌝ }
+    ensures notice { λ _. ⌜ Sealed-notice-read-back (S·Sealer .mac) ⌝ }
+    ensures response { λ _. ⌜ Sealed-response-read-back (S·Sealer .mac) ⌝ }
 {}
 
 // A good telegram is told apart from session authenticate and session status.
