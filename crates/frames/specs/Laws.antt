@@ -7,6 +7,7 @@ use Prim.Native.Nat.{ℕ, _+_, _^_, _<_, _≤_}
 use lib.ListN.{length, getD}
 use Rattle.std.specs.declared.option.Option.the-variants.{Some}
 use Rattle.std.specs.declared.result.Result.the-variants.{Ok}
+use Rattle.octets.specs.Laws.{Octets}
 use Rattle.octets.specs.Runs.{number}
 use Rattle.sealer.specs.Limits.{largest-telegram}
 use Rattle.sealer.specs.Sealing.{Sealed, Openings}
@@ -15,7 +16,7 @@ use Rattle.frames.specs.Headers.{part, stated-kind}
 use Rattle.frames.specs.Reading.{reading, a-wrapper, a-notice}
 use Rattle.frames.specs.Sealing.{wrapper, sealed-notice, sealed-response, exchange-mac}
 use Rattle.frames.specs.Telegrams.{is-good, telegram-kind, sign-in}
-use Rattle.frames.specs.Writing.{nonce, wrapper-lead, notice-lead, notice, response-lead, response, no-session, status, authenticate}
+use Rattle.frames.specs.Writing.{nonce, wrapper-lead, notice-lead, notice, response-lead, response, no-session, status, authenticate-lead, authenticate}
 use Rattle.frames.specs.declared.telegrams.Telegram.the-variants.{Authenticate, Status, Good}
 
 -- a secure wrapper that is read back has the parts that it was written with
@@ -69,6 +70,12 @@ abbrev pub Authenticate-read-back : Type 0
 Authenticate-read-back =
     (user : ℕ) (m : List ℕ) → length m ≡ 16
     → (telegram-kind (authenticate user m) ≡ Authenticate) × (sign-in (authenticate user m) ≡ Some (user, m))
+
+-- a well formed session authenticate is its parts, so that what its MAC covers are its own octets 0 to 7
+abbrev pub Authenticate-is-its-parts : Type 0
+Authenticate-is-its-parts =
+    (t : List ℕ) (user : ℕ) (m : List ℕ) → Octets t → sign-in t ≡ Some (user, m)
+    → (t ≡ authenticate user m) × (part 8 0 t ≡ authenticate-lead user) × (length m ≡ 16)
 
 -- a good telegram is never a session authenticate or a session status
 abbrev pub Good-is-apart : Type 0

@@ -6,6 +6,7 @@ pub mod telegrams;
 pub mod writing;
 
 ghost use Rattle.frames.specs.Laws.{
+  Authenticate-is-its-parts,
   Authenticate-read-back,
   Good-is-apart,
   Good-is-good,
@@ -64,10 +65,11 @@ pub fn read_back_laws_hold()
     ensures authenticate { λ _. ⌜ Authenticate-read-back ⌝ }
 {}
 
-// A frame that is read is its parts, one after the other.
+// What is read is its parts, one after the other.
 pub fn parts_laws_hold()
     ensures wrapper { λ _. ⌜ Wrapper-is-its-parts ⌝ }
     ensures notice { λ _. ⌜ Notice-is-its-parts ⌝ }
+    ensures authenticate { λ _. ⌜ Authenticate-is-its-parts ⌝ }
 {}
 
 // What a sealer sealed is read back, and a wrapper opens to its telegram.
