@@ -40,7 +40,7 @@ abbrev pub telegram-kind : List ℕ → Telegram
 telegram-kind t =
     cond (is-authenticate t) Authenticate
     (cond (is-status t) (Status (getD t 6 0))
-    (elim (good-family t) [ Some family ↦ Good family | None ↦ Other ]))
+    (good-or-other (good-family t)))
 
 -- the user and the MAC of a session authenticate that is well formed
 abbrev pub well-formed : ℕ → List ℕ → Bool

@@ -38,6 +38,7 @@ pub fn family(telegram: &[u8]) -> Option<u8>
     }
 }
 
+// A session authenticate may have any length here: one that is not well formed is a sign-in that fails.
 pub fn classify(telegram: &[u8]) -> Telegram
     ensures { λ r. ⌜ r ≡ telegram-kind (now (telegram .entry)) ⌝ }
 {
@@ -52,6 +53,7 @@ pub fn classify(telegram: &[u8]) -> Telegram
     }
 }
 
+// What a session authenticate holds, if it is well formed.
 pub fn authenticate(telegram: &[u8]) -> Option<SignIn>
     ensures { λ r. ⌜ signed r ≡ sign-in (now (telegram .entry)) ⌝ }
 {
