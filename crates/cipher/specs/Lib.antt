@@ -1,3 +1,4 @@
 pub mod Field
 pub mod Sbox
 pub mod Aes
+pub mod Width

@@ -22,6 +22,7 @@ ghost use Rattle.cipher.specs.Aes.{
 };
 ghost use Rattle.cipher.specs.Field.{product};
 ghost use Rattle.cipher.specs.Sbox.{sub};
+ghost use Rattle.cipher.specs.Width.{aes-wide};
 ghost use Rattle.octets.specs.Runs.{xor};
 ghost use lib.ListN.{getD, set};
 ghost use mathlib.Core.List.{[], _∷_, map};
@@ -310,6 +311,8 @@ pub impl BlockCipher for Aes128 as Aes128Cipher {
     type Prepared = RoundKeys;
 
     ghost enciphered = { aes-128 };
+
+    ghost wide = { aes-wide };
 
     ghost does = { λ prepared. rounds (prepared .keys) };
 

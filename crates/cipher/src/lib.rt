@@ -3,6 +3,7 @@ pub mod aes;
 pub mod bench;
 
 ghost use Prim.Native.Nat.{ℕ};
+ghost use Rattle.cipher.specs.Width.{Wide};
 ghost use mathlib.Core.List.{List};
 ghost use mathlib.Core.Path.{_≡_};
 
@@ -16,6 +17,9 @@ pub trait BlockCipher {
 
     // the meaning: what a key makes of a block
     ghost enciphered: { List ℕ → List ℕ → List ℕ };
+
+    // a law, whose value is its proof: sixteen octets make sixteen
+    ghost wide: { Wide enciphered };
 
     // what a prepared key makes of a block
     ghost does: { Self·Prepared → List ℕ → List ℕ };

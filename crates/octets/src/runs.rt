@@ -1,6 +1,6 @@
 // Runs of octets in a buffer.
-ghost use Rattle.octets.specs.Runs.{xor};
-ghost use Prim.Native.Nat.{_<_};
+ghost use Rattle.octets.specs.Runs.{over-at, xor};
+ghost use Prim.Native.Nat.{_+_, _<_, _≤_};
 ghost use lib.Bits.{bitXor};
 ghost use lib.ListN.{getD, length, set};
 ghost use mathlib.Core.Path.{_≡_};
@@ -20,4 +20,12 @@ pub fn xor_into(into: &mut [u8], with: &[u8])
     for i in 0..shared {
         xor_at(into, with, i);
     }
+}
+
+// Writes octets into a buffer from a place on.
+pub fn put(out: &mut [u8], at: usize, octets: &[u8])
+    requires { ⌜ at + length (now octets) ≤ length (now out) ⌝ }
+    ensures { λ _. ⌜ now (out .exit) ≡ over-at at (now (octets .entry)) (now (out .entry)) ⌝ }
+{
+    out[at..at + octets.len()].copy_from_slice(octets);
 }

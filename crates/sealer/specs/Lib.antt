@@ -6,3 +6,4 @@ pub mod Sealing
 pub mod Comparing
 pub mod Reversing
 pub mod Samples
+pub mod Widths

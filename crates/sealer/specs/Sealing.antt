@@ -36,6 +36,10 @@ Apart ciphertext = (k n a s t : List ℕ) → length s ≤ largest-telegram → 
 abbrev pub Long : Sealed → Type 0
 Long ciphertext = (k n a t : List ℕ) → length (ciphertext k n a t) ≡ length t
 
+-- a MAC has sixteen octets
+abbrev pub Wide : Sealed → Type 0
+Wide mac = (k n a t : List ℕ) → length k ≡ 16 → length (mac k n a t) ≡ 16
+
 -- what opens, seals back to what was opened
 abbrev pub Sound : Sealed → Sealed → Openings → Type 0
 Sound ciphertext mac opened = (k n a c m t : List ℕ) → opened k n a c m ≡ Some t → (ciphertext k n a t ≡ c) × (mac k n a t ≡ m)

@@ -6,7 +6,7 @@ pub mod sealers;
 ghost use Prim.Native.Nat.{ℕ, _≤_};
 ghost use Rattle.sealer.specs.Limits.{largest-telegram};
 ghost use Rattle.sealer.specs.Samples.{Notice-sample, Wrapper-sample};
-ghost use Rattle.sealer.specs.Sealing.{Apart, Complete, Long, Opened, Openings, Sealed, Sound};
+ghost use Rattle.sealer.specs.Sealing.{Apart, Complete, Long, Opened, Openings, Sealed, Sound, Wide};
 ghost use lib.ListN.{length};
 ghost use mathlib.Core.Bool.{true};
 ghost use mathlib.Core.Path.{_≡_};
@@ -30,6 +30,8 @@ pub trait Sealer {
     ghost apart: { Apart ciphertext };
 
     ghost long: { Long ciphertext };
+
+    ghost wide: { Wide mac };
 
     ghost sound: { Sound ciphertext mac opened };
 

@@ -3,6 +3,7 @@ ghost use Rattle.sealer.specs.Counter.{masked};
 ghost use Rattle.sealer.specs.Mac.{mac-of};
 ghost use Rattle.sealer.specs.Reversing.{masked-apart, masked-complete, masked-long, masked-sound, plain-complete, plain-sound};
 ghost use Rattle.sealer.specs.Sealing.{confirmed};
+ghost use Rattle.sealer.specs.Widths.{mac-wide};
 ghost use mathlib.Core.Path.{refl};
 use crate::Nonce;
 use crate::Sealer;
@@ -28,6 +29,8 @@ pub impl<C: BlockCipher> Sealer for Knx<C> as KnxSealer {
     ghost apart = { λ k n a s t _ _ e. masked-apart (C·BlockCipher .enciphered k) n s t e };
 
     ghost long = { λ k n a t. masked-long (C·BlockCipher .enciphered k) n t };
+
+    ghost wide = { λ k n a t e. mac-wide (C·BlockCipher .enciphered k) (λ b l. C·BlockCipher .wide k b e l) n a t };
 
     ghost sound = { λ k n a c m t e. masked-sound (C·BlockCipher .enciphered k) n (mac-of (C·BlockCipher .enciphered k) n a) c m t e };
 
@@ -62,6 +65,8 @@ pub impl<C: BlockCipher> Sealer for Reading<C> as ReadingSealer {
     ghost apart = { λ k n a s t _ _ e. e };
 
     ghost long = { λ k n a t. refl };
+
+    ghost wide = { λ k n a t e. mac-wide (C·BlockCipher .enciphered k) (λ b l. C·BlockCipher .wide k b e l) n a t };
 
     ghost sound = { λ k n a c m t e. plain-sound (mac-of (C·BlockCipher .enciphered k) n a) c m t e };
 

@@ -1,8 +1,12 @@
-// Tries AES-128 against the vectors that FIPS 197 publishes.
-mod published;
+// Tries the library against published vectors: AES-128 against FIPS 197, the KNX sealer against the KNX sample session.
+mod ciphers;
+mod sealing;
 
 ghost use Rattle.vectors.specs.Examples.{Example-vector, Worked-example};
-use published::try_published;
+use ciphers::try_aes;
+use octets::hex::Hex;
+use octets::hex::HexDisplay;
+use sealing::try_knx;
 use std::env;
 use std::error::AnyError;
 
@@ -12,12 +16,24 @@ pub fn examples_hold()
     ensures example_vector { λ _. ⌜ Example-vector ⌝ }
 {}
 
+// Prints what was made, or says that it is not what is published.
+fn compare(rt: &LibcRuntime, name: &str, made: &[u8], published: &[u8]) -> Result<(), AnyError> {
+    let shown = Hex(made);
+    if made != published {
+        println!(rt, "{name}: {shown} is not what is published")?;
+        return Err("a vector failed".into());
+    }
+    println!(rt, "{name}: {shown}")?;
+    Ok(())
+}
+
 fn run(rt: &LibcRuntime) -> Result<(), AnyError> {
     let mut words = env::args(rt)?.skip(1);
     if words.next().is_some() {
         return Err("vectors takes no words".into());
     }
-    try_published(rt)
+    try_aes(rt)?;
+    try_knx(rt)
 }
 
 fn main(rt: LibcRuntime) -> Result<(), AnyError> {
