@@ -3,7 +3,7 @@ use mathlib.Core.List.{List}
 use mathlib.Core.Path.{_≡_}
 use Prim.Native.Nat.{ℕ}
 use lib.ListN.{length}
-use Rattle.sealer.specs.Sealing.{Apart, Complete, Long, Openings, Sealed, Sound}
+use Rattle.sealer.specs.Sealing.{Apart, Complete, Long, Openings, Sealed, Sound, Wide}
 
 pub record Meaning : Type 0 where
   pub ciphertext : Sealed
@@ -13,5 +13,5 @@ pub record Meaning : Type 0 where
   pub long : Long ciphertext
   pub sound : Sound ciphertext mac opened
   pub complete : Complete ciphertext mac opened
-  -- a MAC has sixteen octets
-  pub wide : (k n a t : List ℕ) → length k ≡ 16 → length n ≡ 14 → length (mac k n a t) ≡ 16
+
+  pub wide : Wide mac
