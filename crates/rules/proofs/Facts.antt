@@ -1,0 +1,63 @@
+-- Small facts on options, tests and lists. Assumes nothing.
+use mathlib.Core.Bool.{Bool, true, false, cond, not, _&&_, _||_}
+use mathlib.Core.List.{List, [], _∷_, _++_}
+use mathlib.Core.Path.{_≡_, refl, sym, ap, _∙_}
+use Prim.Native.Nat.{ℕ, zero, suc, _+_, _≤_, _<_, _^_}
+use native.Mathlib.Omega.{arith}
+use lib.Dec.{eqb, ltb}
+use lib.ListN.{length, getD, take, drop}
+use Rattle.std.proofs.shelf.Lists.{take-at}
+use Rattle.std.specs.Vec.{Every}
+use Rattle.std.specs.declared.option.Option.{Option}
+use Rattle.std.specs.declared.option.Option.the-variants.{Some, None}
+use Rattle.std.specs.declared.result.Result.{Result}
+use Rattle.std.specs.declared.result.Result.the-variants.{Ok, Err}
+use Rattle.octets.proofs.Laws.{value-below}
+use Rattle.octets.specs.Laws.{Octets}
+use Rattle.octets.specs.Runs.{number, over, run}
+
+pub none-some : {A : Type 0} (x : A) → None ≡ Some x → ⊥
+none-some {A} x p = let z : _≡_ {A = ℕ} 0 1 = cc in omega arith
+
+pub some-some : {A : Type 0} (x y : A) → Some x ≡ Some y → x ≡ y
+some-some {A} x y p = cc
+
+pub err-ok : {A E : Type 0} (e : E) (x : A) → Err e ≡ Ok x → ⊥
+err-ok {A} {E} e x p = let z : _≡_ {A = ℕ} 0 1 = cc in omega arith
+
+pub ok-ok : {A E : Type 0} (x y : A) → _≡_ {A = Result A E} (Ok x) (Ok y) → x ≡ y
+ok-ok {A} {E} x y p = cc
+
+pub every-map : {X : Type 0} {P Q : X → Type 0} (xs : List X) → ((x : X) → P x → Q x) → Every P xs → Every Q xs
+every-map [] f a = tt
+every-map (x ∷ xs) f a = (f x (a .0), every-map xs f (a .1))
+
+pub cond-case : {A : Type 0} (P : A → Type 0) (b : Bool) (x y : A) → (b ≡ true → P x) → (b ≡ false → P y) → P (cond b x y)
+cond-case P true x y f g = f refl
+cond-case P false x y f g = g refl
+
+-- what was written stands in front
+pub take-over : (w out : List ℕ) → take (length w) (over w out) ≡ w
+take-over w out = take-at w (drop (length w) out) (length w) refl
+
+-- octets, and numbers made of them
+octet-at : (xs : List ℕ) (i : ℕ) → Octets xs → getD xs i 0 < 256
+octet-at [] i o = omega arith
+octet-at (x ∷ xs) zero o = o .0
+octet-at (x ∷ xs) (suc i) o = octet-at xs i (o .1)
+
+octets-run : (n at : ℕ) (xs : List ℕ) → Octets xs → Octets (run n at xs)
+octets-run zero at xs o = tt
+octets-run (suc n) at xs o = (octet-at xs at o, octets-run n (at + 1) xs o)
+
+length-run : (n at : ℕ) (xs : List ℕ) → length (run n at xs) ≡ n
+length-run zero at xs = refl
+length-run (suc n) at xs = ap suc (length-run n (at + 1) xs)
+
+pub number-below : (n at : ℕ) (xs : List ℕ) → Octets xs → number n at xs < 256 ^ n
+number-below n at xs o = rw length-run at (value-below (run n at xs) (octets-run n at xs o))
+
+-- the largest so far, in an option
+abbrev pub Reached : Option ℕ → ℕ → Type 0
+Reached None j = ⊥
+Reached (Some k) j = j ≤ k

@@ -1,0 +1,11 @@
+pub mod Answers
+pub mod Limits
+pub mod Meaning
+pub mod Making
+pub mod Model
+pub mod Calls
+pub mod GroupTime
+pub mod Sessions
+pub mod Rules
+pub mod Runs
+pub mod Law

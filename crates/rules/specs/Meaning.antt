@@ -1,0 +1,17 @@
+-- What the rules know of a sealer: its meaning and its laws. Assumes nothing.
+use mathlib.Core.List.{List}
+use mathlib.Core.Path.{_≡_}
+use Prim.Native.Nat.{ℕ}
+use lib.ListN.{length}
+use Rattle.sealer.specs.Sealing.{Apart, Complete, Long, Openings, Sealed, Sound, Wide}
+
+pub record Meaning : Type 0 where
+  pub ciphertext : Sealed
+  pub mac : Sealed
+  pub opened : Openings
+  pub apart : Apart ciphertext
+  pub long : Long ciphertext
+  pub sound : Sound ciphertext mac opened
+  pub complete : Complete ciphertext mac opened
+
+  pub wide : Wide mac
