@@ -54,8 +54,8 @@ signed-parts set M s (Some p) u e = hashed (hash-of set (p .0)) refl e where
       (λ (r : Option ℕ). r ≡ Some u → (q : ℕ × List ℕ) × (Some p ≡ Some q) × (q .0 ≡ u) × ((h : List ℕ) × (hash-of set u ≡ Some h) × (q .1 ≡ authenticate-mac (M .mac) h u (s .x) (s .y))))
       (same (p .1) (authenticate-mac (M .mac) hash (p .0) (s .x) (s .y))) _ _
       (λ y q.
-        let is : p .0 ≡ u = some-some (p .0) u q in
-        (p, refl, is, (hash, ap (hash-of set) (sym is) ∙ i, same-true _ _ y ∙ ap (λ v. authenticate-mac (M .mac) hash v (s .x) (s .y)) is)))
+      let is : p .0 ≡ u = some-some (p .0) u q in
+      (p, refl, is, (hash, ap (hash-of set) (sym is) ∙ i, same-true _ _ y ∙ ap (λ v. authenticate-mac (M .mac) hash v (s .x) (s .y)) is)))
       (λ n q. absurd (none-some u q))
       e
 
@@ -65,9 +65,8 @@ module _ (set : Settings) (M : Meaning) (proper : Proper-settings set) where
 
   -- an own wrapper of session m around x goes out
   module _ (g : Model) (c : Call) (m : ℕ) (s : Session) (x : List ℕ) (good : Good-session m s) (low : 6 ≤ length x) (high : length x ≤ 474)
-    (r : Step) (is-written : r .written ≡ own-wrapper set M m s x)
-    (shown : octets-out (r .answer) (over (r .written) (lent c .out)) ≡ Some (take (length (own-wrapper set M m s x)) (over (r .written) (lent c .out)))) where
-
+      (r : Step) (is-written : r .written ≡ own-wrapper set M m s x)
+      (shown : octets-out (r .answer) (over (r .written) (lent c .out)) ≡ Some (take (length (own-wrapper set M m s x)) (over (r .written) (lent c .out)))) where
     back : reading (own-wrapper set M m s x) ≡ Ok (a-wrapper m (s .own) (own-serial set) 0 (lead m x) (nonce (s .own) (own-serial set) 0) (cipher M (s .key) m (s .own) (own-serial set) 0 x) (code M (s .key) m (s .own) (own-serial set) 0 x))
     back = wrapper-back M (s .key) m (s .own) (own-serial set) 0 x (good .keyed) (good .numbered) (omega (arith, good .countable)) serial-below (omega arith) low high
 
@@ -97,9 +96,8 @@ module _ (set : Settings) (M : Meaning) (proper : Proper-settings set) where
 
   -- a wrapper of session m came in and opened to t
   module _ (g : Model) (frame offer : List ℕ) (lot : ℕ) (b : Buffers) (m count serial tag : ℕ) (associated nc ct mc : List ℕ)
-    (rd : reading frame ≡ Ok (a-wrapper m count serial tag associated nc ct mc)) (s : Session) (t : List ℕ)
-    (f : Fit g) (at : g .sessions m ≡ Some s) (ab : above (s .last) count ≡ true) (un : M .opened (s .key) nc associated ct mc ≡ Some t) where
-
+      (rd : reading frame ≡ Ok (a-wrapper m count serial tag associated nc ct mc)) (s : Session) (t : List ℕ)
+      (f : Fit g) (at : g .sessions m ≡ Some s) (ab : above (s .last) count ≡ true) (un : M .opened (s .key) nc associated ct mc ≡ Some t) where
     abbrev c : Call
     c = arrive frame offer lot b
 
@@ -137,11 +135,11 @@ module _ (set : Settings) (M : Meaning) (proper : Proper-settings set) where
         step.wrapper-goes set M g frame offer lot b m count serial tag associated nc ct mc rd s t f at (good .nonzero) ab un (deliver set M (on set M g m s count) m count user t) _ refl None
         (λ n ne. refl) refl (λ k p. absurd (none-some k p)) refl
         (λ n k u size q.
-          let ls : length t ≡ size = cc in
-          let eu : user ≡ u = cc in
-          let en : n ≡ m = cc in
-          let ek : k ≡ count = cc in
-          (en, ek, us ∙ ap Some eu, ap (λ j. take j (over t (b .out))) (sym ls) ∙ take-over t (b .out)))
+        let ls : length t ≡ size = cc in
+        let eu : user ≡ u = cc in
+        let en : n ≡ m = cc in
+        let ek : k ≡ count = cc in
+        (en, ek, us ∙ ap Some eu, ap (λ j. take j (over t (b .out))) (sym ls) ∙ take-over t (b .out)))
         (s .own) (s .user) refl refl (omega arith) (good .countable) (good .fresh) (λ k p. absurd (none-some k p)) (λ v p. inl p)
 
     -- a sign-in
@@ -152,7 +150,7 @@ module _ (set : Settings) (M : Meaning) (proper : Proper-settings set) where
         let zero-own : s .own ≡ 0 = good .fresh us in
         let p = signed-parts set M s (sign-in t) user si in
         let full : t ≡ authenticate user (authenticate-mac (M .mac) (p .3 .0) user (s .x) (s .y)) =
-            signed-frame t (p .0) kd (p .1) ∙ ap (λ v. authenticate v (p .0 .1)) (p .2) ∙ ap (authenticate user) (p .3 .2) in
+        signed-frame t (p .0) kd (p .1) ∙ ap (λ v. authenticate v (p .0 .1)) (p .2) ∙ ap (authenticate user) (p .3 .2) in
         let else = out-else g c m s (status 0) good (omega arith) (omega arith) r refl refl in
         let kinds = out-kind g c m s (status 0) good (omega arith) (omega arith) r refl refl ∙ ap Some (status-back 0) in
         let seals = out-seals g c m s (status 0) good (omega arith) (omega arith) r refl refl in
@@ -161,14 +159,15 @@ module _ (set : Settings) (M : Meaning) (proper : Proper-settings set) where
         else kinds seals times (λ n k u size q. absurd (no-frame _ n k u size q))
         (s .own + 1) (Some user) refl refl (omega arith) (omega arith) (λ q. absurd (none-some user (sym q)))
         (λ k q. omega (arith, seals k q))
-        (λ v q. inr (subst (λ w. Signs-in set M (secrets s) m w (noted g c r)) (some-some user v q) (record
-          { granted = ap (has granting) kinds
-          ; hash = p .3 .0
-          ; known = p .3 .1
-          ; frame =
+        (λ v q. inr (subst (λ w. Signs-in set M (secrets s) m w (noted g c r)) (some-some user v q) (record {
+          granted = ap (has granting) kinds;
+          hash = p .3 .0;
+          known = p .3 .1;
+          frame =
               step.in-held set M g frame offer lot b m count serial tag associated nc ct mc rd s t f at (good .nonzero) ab un r _ refl (Some (Status 0))
               else kinds seals times (λ n k u size q. absurd (no-frame _ n k u size q))
-              ∙ ap Some full })))
+              ∙ ap Some full;
+        })))
 
     sign-fine : (o : Option ℕ) → s .user ≡ None → telegram-kind t ≡ Authenticate → signs-in set M s t ≡ o → Fine set M g c (sign set M g m s count o)
     sign-fine None us kd si = ending-fine 1 refl
@@ -189,8 +188,7 @@ module _ (set : Settings) (M : Meaning) (proper : Proper-settings set) where
 
   -- a wrapper of a session, question by question
   module _ (g : Model) (frame offer : List ℕ) (lot : ℕ) (b : Buffers) (m count serial tag : ℕ) (associated nc ct mc : List ℕ)
-    (rd : reading frame ≡ Ok (a-wrapper m count serial tag associated nc ct mc)) (f : Fit g) where
-
+      (rd : reading frame ≡ Ok (a-wrapper m count serial tag associated nc ct mc)) (f : Fit g) where
     opened-fine : (s : Session) (o : Option (List ℕ)) → g .sessions m ≡ Some s → above (s .last) count ≡ true → M .opened (s .key) nc associated ct mc ≡ o
         → Fine set M g (arrive frame offer lot b) (opened-session set M g m s count o)
     opened-fine s None at ab un = refused set M g (arrive frame offer lot b) no.Opening refl f
@@ -202,7 +200,7 @@ module _ (set : Settings) (M : Meaning) (proper : Proper-settings set) where
     wrapper-fine (Some s) at = cond-case (Fine set M g (arrive frame offer lot b)) (lapsed s) _ _
         (λ _. refused set M g (arrive frame offer lot b) no.Session refl f)
         (λ _. cond-case (Fine set M g (arrive frame offer lot b)) (eqb serial (own-serial set)) _ _
-          (λ _. refused set M g (arrive frame offer lot b) no.OwnSerial refl f)
-          (λ _. cond-case (Fine set M g (arrive frame offer lot b)) (above (s .last) count) _ _
-            (λ ab. opened-fine s (M .opened (s .key) nc associated ct mc) at ab refl)
-            (λ _. refused set M g (arrive frame offer lot b) no.Number refl f)))
+        (λ _. refused set M g (arrive frame offer lot b) no.OwnSerial refl f)
+        (λ _. cond-case (Fine set M g (arrive frame offer lot b)) (above (s .last) count) _ _
+        (λ ab. opened-fine s (M .opened (s .key) nc associated ct mc) at ab refl)
+        (λ _. refused set M g (arrive frame offer lot b) no.Number refl f)))

@@ -46,10 +46,10 @@ kinds : (k : ℕ) (f : List ℕ) (shape : Shape) → by-kind k f ≡ Ok shape �
 kinds k f shape = cond-case (λ (r : Result Shape Unreadable). r ≡ Ok shape → Read-as f shape) (eqb k 0x0950) _ _
     (λ _ e. let p = fitting (wrapper-fits f) (wrapper-shape f) shape e in as-wrapper (leb-true 44 (length f) (p .0)) (p .1))
     (λ _. cond-case (λ (r : Result Shape Unreadable). r ≡ Ok shape → Read-as f shape) (eqb k 0x0951) _ _
-      (λ _ e. as-request (fitting (request-fits f) (request-shape f) shape e .1))
-      (λ _. cond-case (λ (r : Result Shape Unreadable). r ≡ Ok shape → Read-as f shape) (eqb k 0x0955) _ _
-        (λ _ e. as-notice (fitting (notice-fits f) (notice-shape f) shape e .1))
-        (λ _ e. absurd (err-ok Kind shape e))))
+    (λ _ e. as-request (fitting (request-fits f) (request-shape f) shape e .1))
+    (λ _. cond-case (λ (r : Result Shape Unreadable). r ≡ Ok shape → Read-as f shape) (eqb k 0x0955) _ _
+    (λ _ e. as-notice (fitting (notice-fits f) (notice-shape f) shape e .1))
+    (λ _ e. absurd (err-ok Kind shape e))))
 
 headers : (o : Option ℕ) (f : List ℕ) (shape : Shape) → by-header o f ≡ Ok shape → Read-as f shape
 headers None f shape e = absurd (err-ok Header shape e)
@@ -130,7 +130,7 @@ pub wrapper-back : (M : Meaning) (key : List ℕ) (n count serial tag : ℕ) (t 
 wrapper-back M key n count serial tag t wide nb cb sb tb low high =
     let same : length (cipher M key n count serial tag t) ≡ length t = M .long key (nonce count serial tag) (lead n t) t in
     let l = wrapper-read-back n count serial tag (cipher M key n count serial tag t) (code M key n count serial tag t) nb cb sb tb (omega arith) (omega arith)
-        (M .wide key (nonce count serial tag) (lead n t) t wide) in
+    (M .wide key (nonce count serial tag) (lead n t) t wide) in
     rw same at l
 
 -- a status has eight octets, and is read as one
@@ -154,9 +154,9 @@ module _ (M : Meaning) (key : List ℕ) (session : ℕ) (x y : List ℕ) (wide :
   response-unread =
       ap (λ (o : Option ℕ). readable (by-header o (sealed-response (M .mac) key session x y))) (response-read-back session y its-mac sb yl its-width .0)
       ∙ either (leb (length (sealed-response (M .mac) key session x y)) 512) where
-    either : (b : Bool) → readable (cond b (Err Kind) (Err Header)) ≡ None
-    either true = refl
-    either false = refl
+        either : (b : Bool) → readable (cond b (Err Kind) (Err Header)) ≡ None
+        either true = refl
+        either false = refl
 
   pub response-long : length (sealed-response (M .mac) key session x y) ≡ 56
   response-long = response-read-back session y its-mac sb yl its-width .1

@@ -3,7 +3,7 @@ use mathlib.Core.Bool.{Bool, true, false, cond, _&&_}
 use mathlib.Core.List.{List, [], _∷_, map}
 use mathlib.Core.Logic.{_⊎_, _≢_, inl, inr, ⊎-elim}
 use mathlib.Core.Path.{_≡_, refl, sym, ap, subst, _∙_}
-use Prim.Native.Nat.{ℕ, _+_, _≤_, _<_, min, max}
+use Prim.Native.Nat.{ℕ, zero, suc, _+_, _≤_, _<_, min, max, zero-le}
 use native.Mathlib.Omega.{arith}
 use lib.Dec.{eqb, leb, ltb}
 use Rattle.std.proofs.shelf.Tests.{and-parts, eqb-true, eqb-false, ltb-true}
@@ -22,7 +22,7 @@ use Rattle.rules.specs.declared.settings.Settings.{Settings}
 use Rattle.rules.specs.Calls.{Buffers, Call, Step, announce, arrive, due, hang-up, pass, refuse, send}
 use Rattle.rules.specs.Law as law
 use Rattle.rules.specs.Law.{Every-run-keeps-the-law, Law, Proper-call, Proper-calls, Proper-settings, Throughout, arriving, clock, count-of, larger, latest, leaving, life, milliseconds, time-in, time-out}
-use Rattle.rules.specs.Limits.{last-time, numbers}
+use Rattle.rules.specs.Limits.{last-time, numbers, session-numbers}
 use Rattle.rules.specs.Making.{acceptable, latency, sync}
 use Rattle.rules.specs.Meaning.{Meaning}
 use Rattle.rules.specs.Model.{Model, new}
@@ -30,6 +30,7 @@ use Rattle.rules.specs.Rules.{arrived, next, roomy, unread, with-room}
 use Rattle.rules.specs.Runs.{Event, event, history, noted, state}
 use Rattle.rules.specs.Sessions.{first-lapsed}
 use Rattle.rules.proofs.Acts.{wrapper-fine}
+use Rattle.rules.proofs.Counting.{Counted, count}
 use Rattle.rules.proofs.Facts.{Reached, cond-case, every-map, none-some}
 use Rattle.rules.proofs.Groups.{group-wrapper-fine, notice-fine}
 use Rattle.rules.proofs.Moves.{Lives, Still, Tied, spoken, tied-kept}
@@ -51,8 +52,8 @@ module _ (set : Settings) (M : Meaning) (proper : Proper-settings set) where
   arrived-fine g frame offer lot b fo oo f (Ok (a-wrapper n count serial tag associated nc ct mc)) rd =
       cond-case (Fine set M g (arrive frame offer lot b)) (eqb n 0) _ _
       (λ z.
-        let none = eqb-true n 0 z in
-        group-wrapper-fine set M g frame offer lot b fo f count serial tag associated nc ct mc (rd ∙ ap (λ k. Ok (a-wrapper k count serial tag associated nc ct mc)) none))
+      let none = eqb-true n 0 z in
+      group-wrapper-fine set M g frame offer lot b fo f count serial tag associated nc ct mc (rd ∙ ap (λ k. Ok (a-wrapper k count serial tag associated nc ct mc)) none))
       (λ _. wrapper-fine set M proper g frame offer lot b n count serial tag associated nc ct mc rd f (g .sessions n) refl)
 
   fine : (g : Model) (c : Call) → Fit g → Proper-call c → Fine set M g c (next set M g c)
@@ -126,15 +127,25 @@ module _ (set : Settings) (M : Meaning) (proper : Proper-settings set) where
     pub sent-is : Every (λ d. (x : ℕ) → time-out d ≡ Some x → Reached (g .sent) x) h
     pub tied : (n : ℕ) → n ≢ 0 → Tied set M n (life set M n h) (g .sessions n)
     pub fit : Fit g
+    pub counted : Counted g
     pub laws : Throughout (Law set M) h
+
+  none-counted : (n i : ℕ) → count n i (λ k. false) ≡ 0
+  none-counted zero i = refl
+  none-counted (suc n) i = let r = none-counted n (i + 1) in rw r
 
   pub inv-new : acceptable set ≡ true → Inv (new set) []
   inv-new ok =
       let start = ltb-true (set .start) numbers (and-parts (leb (sync set) (latency set) && leb (latency set) 10000) (ltb (set .start) numbers) ok .1) in
-      record
-        { state-is = refl; timer-is = omega arith; sent-is = tt; tied = λ n nz. tt
-        ; fit = record { timer = omega arith; sessions = λ n s q. absurd (none-some s q); wanted = λ w q. absurd (none-some w q) }
-        ; laws = tt }
+      record {
+        state-is = refl;
+        timer-is = omega arith;
+        sent-is = tt;
+        tied = λ n nz. tt;
+        fit = record { timer = omega arith; sessions = λ n s q. absurd (none-some s q); wanted = λ w q. absurd (none-some w q) };
+        counted = record { is = none-counted session-numbers 0; few = zero-le };
+        laws = tt;
+      }
 
   pub inv-next : (g : Model) (c : Call) (h : List Event) → Proper-call c → Inv g h → Inv (next set M g c .to) (event set M g c ∷ h)
   inv-next g c h p i =
@@ -143,23 +154,29 @@ module _ (set : Settings) (M : Meaning) (proper : Proper-settings set) where
       let e = event set M g c in
       let after = k .ticks ∙ clock-next e h (g .timer) (i .timer-is) in
       let all : All e h = λ n nz. spoken set M n e (life set M n h) (g .sessions n) _ (i .tied n nz) (x .moved n nz) in
-      record
-        { state-is = ap (λ m. next set M m c .to) (i .state-is)
-        ; timer-is = after
-        ; sent-is = (k .reached, every-map h (λ d a y q. k .kept y (a y q)) (i .sent-is))
-        ; tied = λ n nz. tied-kept set M n e (life set M n h) (g .sessions n) _ (i .tied n nz) (x .moved n nz)
-        ; fit = x .fit
-        ; laws = (record
-            { numbers-rise = numbers-rise e h all
-            ; signed-for = signed-for e h all
-            ; genuine-in-session = genuine-in-session e h all
-            ; genuine-in-group = k .genuine
-            ; no-number-twice = no-number-twice e h all
-            ; no-time-twice = λ y q. every-map h (λ d a z. omega (arith, k .later y q y (a y z))) (i .sent-is)
-            ; timer-before = i .timer-is
-            ; timer-after = after
-            ; window = k .window
-            ; ruled = ap (λ m. event set M m c) (i .state-is) }, i .laws) }
+      record {
+        state-is = ap (λ m. next set M m c .to) (i .state-is);
+        timer-is = after;
+        sent-is = (k .reached, every-map h (λ d a y q. k .kept y (a y q)) (i .sent-is));
+        tied = λ n nz. tied-kept set M n e (life set M n h) (g .sessions n) _ (i .tied n nz) (x .moved n nz);
+        fit = x .fit;
+        counted = x .counted (i .counted);
+        laws = (
+          record {
+            numbers-rise = numbers-rise e h all;
+            signed-for = signed-for e h all;
+            genuine-in-session = genuine-in-session e h all;
+            genuine-in-group = k .genuine;
+            no-number-twice = no-number-twice e h all;
+            no-time-twice = λ y q. every-map h (λ d a z. omega (arith, k .later y q y (a y z))) (i .sent-is);
+            timer-before = i .timer-is;
+            timer-after = after;
+            window = k .window;
+            ruled = ap (λ m. event set M m c) (i .state-is);
+          },
+          i .laws,
+        );
+      }
 
   pub inv-all : acceptable set ≡ true → (calls : List Call) → Proper-calls calls → Inv (state set M calls) (history set M calls)
   inv-all ok [] p = inv-new ok

@@ -1,4 +1,5 @@
 pub mod Facts
+pub mod Counting
 pub mod Frames
 pub mod Moves
 pub mod Steps
@@ -6,3 +7,6 @@ pub mod Acts
 pub mod Groups
 pub mod Others
 pub mod Kept
+pub mod Resting
+pub mod Naming
+pub mod SampleRuns

@@ -80,11 +80,12 @@ module _ (set : Settings) (M : Meaning) where
   tied-kept n e (Some l) (Some s) _ t (goes _ r f g says x) =
       let same = t .secrets-is in
       let g′ : ends set M (l .secrets) n e ≡ false = ap (λ k. ends set M k n e) same ∙ g in
-      rw (f, g′) (record
-        { secrets-is = same ∙ x .secrets-kept
-        ; last = (x .last-new, every-map (l .since) (λ d a j p. x .last-kept j (a j p)) (t .last))
-        ; own = (x .own-new, every-map (l .since) (λ d a j p. omega (arith, a j p, x .own-kept)) (t .own))
-        ; user = λ u p. ⊎-elim (λ q. inr (t .user u q)) (λ q. inl (subst (λ k. Signs-in set M k n u e) (sym same) q)) (x .user-new u p) })
+      rw (f, g′) (record {
+        secrets-is = same ∙ x .secrets-kept;
+        last = (x .last-new, every-map (l .since) (λ d a j p. x .last-kept j (a j p)) (t .last));
+        own = (x .own-new, every-map (l .since) (λ d a j p. omega (arith, a j p, x .own-kept)) (t .own));
+        user = λ u p. ⊎-elim (λ q. inr (t .user u q)) (λ q. inl (subst (λ k. Signs-in set M k n u e) (sym same) q)) (x .user-new u p);
+      })
   tied-kept n e (Some l) (Some s) _ t (stops _ f g says) =
       let g′ : ends set M (l .secrets) n e ≡ true = ap (λ k. ends set M k n e) (t .secrets-is) ∙ g in
       rw (f, g′) tt
@@ -112,12 +113,19 @@ module _ (set : Settings) (M : Meaning) where
       let i = q .no-in in
       let x = q .no-out in
       goes s s f (rw (i, x) (and-false _))
-      (record
-        { hears = λ k p. absurd (none-some k (rw i at p)); seals = λ k p. absurd (none-some k (rw x at p))
-        ; delivers = λ count user size p. absurd (q .no-delivery count user size p) })
-      (record
-        { secrets-kept = refl; last-kept = λ j r. r; last-new = λ k p. absurd (none-some k (rw i at p)); own-kept = omega arith
-        ; own-new = λ k p. absurd (none-some k (rw x at p)); user-new = λ u p. inl p })
+      (record {
+        hears = λ k p. absurd (none-some k (rw i at p));
+        seals = λ k p. absurd (none-some k (rw x at p));
+        delivers = λ count user size p. absurd (q .no-delivery count user size p);
+      })
+      (record {
+        secrets-kept = refl;
+        last-kept = λ j r. r;
+        last-new = λ k p. absurd (none-some k (rw i at p));
+        own-kept = omega arith;
+        own-new = λ k p. absurd (none-some k (rw x at p));
+        user-new = λ u p. inl p;
+      })
     where
       and-false : (b : Bool) → (b && false) ≡ false
       and-false true = refl

@@ -32,7 +32,7 @@ use Rattle.rules.specs.declared.settings.Settings.{Settings}
 use Rattle.rules.specs.Calls.{Buffers, Call, Step, announce, arrive, due, hang-up, pass, quietly, refuse, send}
 use Rattle.rules.specs.GroupTime.{next-time, notice-serial, notice-tag, notified-at, sent-at, tag-of}
 use Rattle.rules.specs.Law.{Proper-settings, Wrapped, arriving, came-in, count-of, ending, ends, given, group-time, has, is-response, kind-held, leaving, milliseconds, octets-in, octets-out, of-session, opens, opens-by, opens-with, readable, time-in, time-out, went-out}
-use Rattle.rules.specs.Limits.{idle-time, last-time, numbers, slots}
+use Rattle.rules.specs.Limits.{idle-time, last-time, numbers, session-numbers, slots}
 use Rattle.rules.specs.Making.{own-serial}
 use Rattle.rules.specs.Meaning.{Meaning}
 use Rattle.rules.specs.Model.{Model, Session, put}
@@ -40,6 +40,7 @@ use Rattle.rules.specs.Rules.{announce-at, announced, due-notice, due-now, end
 use Rattle.rules.specs.Runs.{Event, lent, noted}
 use Rattle.rules.specs.Sessions.{all-waited, begun, first-lapsed, lapsed, sent-one, waited}
 use Rattle.rules.proofs.Acts.{out-else, out-here, out-kind, out-seals, out-time, serial-below}
+use Rattle.rules.proofs.Counting.{Counted, count, count-same, counted-put, counted-same}
 use Rattle.rules.proofs.Facts.{Reached, cond-case, none-some, number-below, some-some, take-over}
 use Rattle.rules.proofs.Frames.{notice-back, response-long, response-unread, status-back, wrapper-back}
 use Rattle.rules.proofs.Moves.{Goes, Moved, Moves, Says, Still, about, absent, aside, goes, quiet, secrets, starts, stops}
@@ -84,42 +85,46 @@ module _ (set : Settings) (M : Meaning) (proper : Proper-settings set) where
         let r = no-slot set M g in
         let i : came-in (noted g c r) ≡ Some (a-request x) = ap readable rd in
         let o : went-out (noted g c r) ≡ None = ap (λ (w : List ℕ). readable (reading w)) (take-over no-session (b .out)) in
-        record
-          { moved = λ n nz. aside set M g c n r refl
-              (record { no-in = ap (given (of-session n)) i; no-out = ap (given (of-session n)) o; no-delivery = λ count user size q. no-frame _ n count user size q }) refl
-          ; fit = f
-          ; clocks = idle set M g c r f refl refl refl (ap (given group-time) i) (ap (given group-time) o) (ap (given (of-session 0)) i) (λ count user size q. no-frame _ 0 count user size q) }
+        record {
+          moved = λ n nz. aside set M g c n r refl
+              (record { no-in = ap (given (of-session n)) i; no-out = ap (given (of-session n)) o; no-delivery = λ count user size q. no-frame _ n count user size q }) refl;
+          fit = f;
+          clocks = idle set M g c r f refl refl refl (ap (given group-time) i) (ap (given group-time) o) (ap (given (of-session 0)) i) (λ count user size q. no-frame _ 0 count user size q);
+          counted = λ k. k;
+        }
 
-    open-fine : length offer ≡ 50 → m ≢ 0 → g .sessions m ≡ None → Fine set M g c (open-session set M g x offer)
-    open-fine lo mz at =
+    open-fine : length offer ≡ 50 → m ≢ 0 → g .sessions m ≡ None → g .held < slots → Fine set M g c (open-session set M g x offer)
+    open-fine lo mz at room =
         let r = open-session set M g x offer in
         let mb : m < 2 ^ 16 = number-below 2 0 offer octets in
         let ly : length (offer-y set M offer) ≡ 32 = length-take-le 32 (drop 2 offer) (simp length-drop (omega arith)) in
         let lk : length (offer-key set M offer) ≡ 16 = length-take-le 16 (drop 34 offer) (simp length-drop (omega arith)) in
         let i : came-in (noted g c r) ≡ Some (a-request x) = ap readable rd in
         let o : went-out (noted g c r) ≡ None =
-            ap (λ (w : List ℕ). readable (reading w)) (take-over (response-to set M x offer) (b .out)) ∙ response-unread M (set .device) m x (offer-y set M offer) (proper .device-length) mb ly in
+        ap (λ (w : List ℕ). readable (reading w)) (take-over (response-to set M x offer) (b .out)) ∙ response-unread M (set .device) m x (offer-y set M offer) (proper .device-length) mb ly in
         let long : eqb (length (response-to set M x offer)) 56 ≡ true = eq-eqb _ 56 (response-long M (set .device) m x (offer-y set M offer) (proper .device-length) mb ly) in
         let still : (n : ℕ) → Still n (noted g c r) = λ n. record
-            { no-in = ap (given (of-session n)) i; no-out = ap (given (of-session n)) o; no-delivery = λ count user size q. no-frame _ n count user size q } in
+        { no-in = ap (given (of-session n)) i; no-out = ap (given (of-session n)) o; no-delivery = λ count user size q. no-frame _ n count user size q } in
         let new = begun (offer-key set M offer) x (offer-y set M offer) in
-        record
-          { moved = about set M g c m (Some new) r refl (λ n ne nz. still n)
+        record {
+          moved = about set M g c m (Some new) r refl (λ n ne nz. still n)
               (λ n ne nz. opens-none (is-response (r .answer)) (opens-by n c) (ap (opens-with n offer) rd ∙ rw ne refl))
               (subst (λ v. Moves set M m (noted g c r) v (Some new)) (sym at)
-                (starts (offer-key set M offer) x (offer-y set M offer) (still m)
-                  (let same = eq-eqb m m refl in rw (long, rd, same) refl)))
-          ; fit = fit-put g m (Some new) f (λ s q. subst (Good-session m) (some-some new s q) (record { nonzero = mz; numbered = mb; keyed = lk; countable = omega arith; fresh = λ _. refl }))
-          ; clocks = idle set M g c r f refl refl refl (ap (given group-time) i) (ap (given group-time) o) (ap (given (of-session 0)) i) (λ count user size q. no-frame _ 0 count user size q) }
+              (starts (offer-key set M offer) x (offer-y set M offer) (still m)
+              (let same = eq-eqb m m refl in rw (long, rd, same) refl)));
+          fit = fit-put g m (Some new) f (λ s q. subst (Good-session m) (some-some new s q) (record { nonzero = mz; numbered = mb; keyed = lk; countable = omega arith; fresh = λ _. refl }));
+          clocks = idle set M g c r f refl refl refl (ap (given group-time) i) (ap (given group-time) o) (ap (given (of-session 0)) i) (λ count user size q. no-frame _ 0 count user size q);
+          counted = counted-put g m (Some new) mb (λ _. room);
+        }
 
     pub request-fine : Fine set M g c (requested set M g x offer)
     request-fine = cond-case (Fine set M g c) (good-offer set M g offer) _ _
         (λ good.
-          let p = and-parts (eqb (length offer) 50 && not (eqb m 0)) (not (isSome (g .sessions m))) good in
-          let q = and-parts (eqb (length offer) 50) (not (eqb m 0)) (p .0) in
-          cond-case (Fine set M g c) (ltb (g .held) slots) _ _
-          (λ _. open-fine (eqb-true (length offer) 50 (q .0)) (eqb-false m 0 (not-true (eqb m 0) (q .1))) (is-none (g .sessions m) (p .1)))
-          (λ _. no-slot-fine))
+        let p = and-parts (eqb (length offer) 50 && not (eqb m 0)) (not (isSome (g .sessions m))) good in
+        let q = and-parts (eqb (length offer) 50) (not (eqb m 0)) (p .0) in
+        cond-case (Fine set M g c) (ltb (g .held) slots) _ _
+        (λ lt. open-fine (eqb-true (length offer) 50 (q .0)) (eqb-false m 0 (not-true (eqb m 0) (q .1))) (is-none (g .sessions m) (p .1)) (ltb-true (g .held) slots lt))
+        (λ _. no-slot-fine))
         (λ _. refused set M g c no.Offer refl f)
 
   -- PASS
@@ -143,22 +148,32 @@ module _ (set : Settings) (M : Meaning) (proper : Proper-settings set) where
         let good = f .sessions n t at in
         subst (Good-session n) (some-some (waited ms t) s q) (record { nonzero = good .nonzero; numbered = good .numbered; keyed = good .keyed; countable = good .countable; fresh = good .fresh })
 
+    still-there : (o : Option Session) → isSome (all-waited ms o) ≡ isSome o
+    still-there None = refl
+    still-there (Some s) = refl
+
     pub pass-fine : Fine set M g (pass ms) r
-    pass-fine = record
-      { moved = λ n nz. waits n (g .sessions n)
-      ; fit = record { timer = omega arith; sessions = λ n s q. waited-fit n (g .sessions n) refl s q; wanted = f .wanted }
-      ; clocks = record
-          { ticks = refl; later = λ x q. absurd (none-some x q); kept = λ j h. h; reached = λ x q. absurd (none-some x q)
-          ; window = λ w q. absurd (none-some w q); genuine = λ count user size q. absurd (no-taken 0 count user size q) } }
+    pass-fine = record {
+      moved = λ n nz. waits n (g .sessions n);
+      fit = record { timer = omega arith; sessions = λ n s q. waited-fit n (g .sessions n) refl s q; wanted = f .wanted };
+      clocks = record {
+        ticks = refl;
+        later = λ x q. absurd (none-some x q);
+        kept = λ j h. h;
+        reached = λ x q. absurd (none-some x q);
+        window = λ w q. absurd (none-some w q);
+        genuine = λ count user size q. absurd (no-taken 0 count user size q);
+      };
+      counted = λ k. record { is = count-same session-numbers 0 _ _ (λ n l. still-there (g .sessions n)) ∙ k .is; few = k .few };
+    }
 
   -- AN OWN WRAPPER GOES OUT, AND NOTHING CAME IN
 
   module _ (g : Model) (c : Call) (m : ℕ) (s : Session) (x : List ℕ) (f : Fit g) (at : g .sessions m ≡ Some s) (low : 6 ≤ length x) (high : length x ≤ 474) (still-time : milliseconds set M c ≡ 0)
-    (r : Step) (is-written : r .written ≡ own-wrapper set M m s x)
-    (shown : octets-out (r .answer) (over (r .written) (lent c .out)) ≡ Some (take (length (own-wrapper set M m s x)) (over (r .written) (lent c .out))))
-    (no-in : came-in (noted g c r) ≡ None) (unopened : (n : ℕ) → opens-by n c ≡ None)
-    (no-delivery : (n k user size : ℕ) → r .answer ≡ Ok (Delivered n k user size) → ⊥) where
-
+      (r : Step) (is-written : r .written ≡ own-wrapper set M m s x)
+      (shown : octets-out (r .answer) (over (r .written) (lent c .out)) ≡ Some (take (length (own-wrapper set M m s x)) (over (r .written) (lent c .out))))
+      (no-in : came-in (noted g c r) ≡ None) (unopened : (n : ℕ) → opens-by n c ≡ None)
+      (no-delivery : (n k user size : ℕ) → r .answer ≡ Ok (Delivered n k user size) → ⊥) where
     abbrev good : Good-session m s
     good = f .sessions m s at
 
@@ -172,10 +187,11 @@ module _ (set : Settings) (M : Meaning) (proper : Proper-settings set) where
     others n ne nz = record { no-in = no-arriving n; no-out = out-else set M proper g c m s x good low high r is-written shown n ne; no-delivery = λ k user size q. no-delivery n k user size q }
 
     says : Says set M m (noted g c r) s
-    says = record
-      { hears = λ k p. absurd (none-some k (sym (ap count-of (no-arriving m)) ∙ p))
-      ; seals = out-seals set M proper g c m s x good low high r is-written shown
-      ; delivers = λ k user size q. absurd (no-delivery m k user size q) }
+    says = record {
+      hears = λ k p. absurd (none-some k (sym (ap count-of (no-arriving m)) ∙ p));
+      seals = out-seals set M proper g c m s x good low high r is-written shown;
+      delivers = λ k user size q. absurd (no-delivery m k user size q);
+    }
 
     or-false : (b d : Bool) → b || (d && false) ≡ b
     or-false true d = refl
@@ -193,20 +209,29 @@ module _ (set : Settings) (M : Meaning) (proper : Proper-settings set) where
         (λ k user size q. no-delivery 0 k user size q)
 
     out-stops : r .to ≡ put g m None → ending (telegram-kind x) ≡ true → Fine set M g c r
-    out-stops to e = record
-      { moved = about set M g c m None r to others (λ n ne nz. no-opening n) (subst (λ o. Moves set M m (noted g c r) o None) (sym at) (stops s (no-opening m) (ends-is ∙ e) says))
-      ; fit = subst Fit (sym to) (fit-put g m None f (λ v q. absurd (none-some v q)))
-      ; clocks = clocks-of (ap (λ h. h .timer) to) (ap (λ h. h .sent) to) }
+    out-stops to e = record {
+      moved = about set M g c m None r to others (λ n ne nz. no-opening n) (subst (λ o. Moves set M m (noted g c r) o None) (sym at) (stops s (no-opening m) (ends-is ∙ e) says));
+      fit = subst Fit (sym to) (fit-put g m None f (λ v q. absurd (none-some v q)));
+      clocks = clocks-of (ap (λ h. h .timer) to) (ap (λ h. h .sent) to);
+      counted = λ k. subst Counted (sym to) (counted-put g m None (good .numbered) (λ q. absurd (none-some s (sym q ∙ at))) k);
+    }
 
     out-goes : r .to ≡ put g m (Some (sent-one s)) → ending (telegram-kind x) ≡ false → s .own < last-time → (user : ℕ) → s .user ≡ Some user → Fine set M g c r
-    out-goes to e below user us = record
-      { moved = about set M g c m (Some (sent-one s)) r to others (λ n ne nz. no-opening n)
-          (subst (λ o. Moves set M m (noted g c r) o (Some (sent-one s))) (sym at) (goes s (sent-one s) (no-opening m) (ends-is ∙ e) says (record
-            { secrets-kept = refl; last-kept = λ j h. h; last-new = λ k p. absurd (none-some k (sym (ap count-of (no-arriving m)) ∙ p)); own-kept = omega arith
-            ; own-new = λ k p. omega (arith, out-seals set M proper g c m s x good low high r is-written shown k p); user-new = λ u p. inl p })))
-      ; fit = subst Fit (sym to) (fit-put g m (Some (sent-one s)) f (λ v q. subst (Good-session m) (some-some (sent-one s) v q) (record
-          { nonzero = good .nonzero; numbered = good .numbered; keyed = good .keyed; countable = omega arith; fresh = λ z. absurd (none-some user (sym z ∙ us)) })))
-      ; clocks = clocks-of (ap (λ h. h .timer) to) (ap (λ h. h .sent) to) }
+    out-goes to e below user us = record {
+      moved = about set M g c m (Some (sent-one s)) r to others (λ n ne nz. no-opening n)
+          (subst (λ o. Moves set M m (noted g c r) o (Some (sent-one s))) (sym at) (goes s (sent-one s) (no-opening m) (ends-is ∙ e) says (record {
+            secrets-kept = refl;
+            last-kept = λ j h. h;
+            last-new = λ k p. absurd (none-some k (sym (ap count-of (no-arriving m)) ∙ p));
+            own-kept = omega arith;
+            own-new = λ k p. omega (arith, out-seals set M proper g c m s x good low high r is-written shown k p);
+            user-new = λ u p. inl p;
+          })));
+      fit = subst Fit (sym to) (fit-put g m (Some (sent-one s)) f (λ v q. subst (Good-session m) (some-some (sent-one s) v q) (record
+          { nonzero = good .nonzero; numbered = good .numbered; keyed = good .keyed; countable = omega arith; fresh = λ z. absurd (none-some user (sym z ∙ us)) })));
+      clocks = clocks-of (ap (λ h. h .timer) to) (ap (λ h. h .sent) to);
+      counted = λ k. subst Counted (sym to) (counted-put g m (Some (sent-one s)) (good .numbered) (λ q. absurd (none-some s (sym q ∙ at))) k);
+    }
 
   -- HANG UP
 
@@ -233,8 +258,8 @@ module _ (set : Settings) (M : Meaning) (proper : Proper-settings set) where
         let l = good-length t good in
         cond-case (Fine set M g (send n t b)) (ltb (s .own) last-time) _ _
         (λ lt. out-goes g (send n t b) n s t f at (l .0) (l .1) refl
-          (record { to = put g n (Some (sent-one s)); answer = Ok (Sealed (length (own-wrapper set M n s t)) (s .own)); written = own-wrapper set M n s t })
-          refl refl refl (λ k. refl) (λ k j u z q. no-sealed _ _ k j u z q) refl (ap ending (good-is-apart t good)) (ltb-true (s .own) last-time lt) user us)
+        (record { to = put g n (Some (sent-one s)); answer = Ok (Sealed (length (own-wrapper set M n s t)) (s .own)); written = own-wrapper set M n s t })
+        refl refl refl (λ k. refl) (λ k j u z q. no-sealed _ _ k j u z q) refl (ap ending (good-is-apart t good)) (ltb-true (s .own) last-time lt) user us)
         (λ _. refused set M g (send n t b) no.NumbersSpent refl f)
 
     pub send-fine : (o : Option Session) → g .sessions n ≡ o → Fine set M g (send n t b) (send-in set M g n t o)
@@ -242,34 +267,36 @@ module _ (set : Settings) (M : Meaning) (proper : Proper-settings set) where
     send-fine (Some s) at = cond-case (Fine set M g (send n t b)) (lapsed s) _ _
         (λ _. refused set M g (send n t b) no.Session refl f)
         (λ _. cond-case (Fine set M g (send n t b)) (is-good t) _ _
-          (λ good. signed-fine s (s .user) at refl good)
-          (λ _. refused set M g (send n t b) no.Telegram refl f))
+        (λ good. signed-fine s (s .user) at refl good)
+        (λ _. refused set M g (send n t b) no.Telegram refl f))
 
   -- A FRAME GOES TO THE GROUP, AND NOTHING CAME IN
 
   module _ (g : Model) (c : Call) (time : ℕ) (f : Fit g) (is : time ≡ next-time (g .timer) (g .sent)) (below : time < numbers) (still-time : milliseconds set M c ≡ 0)
-    (r : Step) (shape : Shape) (shown : went-out (noted g c r) ≡ Some shape) (timed : group-time shape ≡ Some time) (aside-from : (n : ℕ) → n ≢ 0 → of-session n shape ≡ None)
-    (no-in : came-in (noted g c r) ≡ None) (unopened : (n : ℕ) → opens-by n c ≡ None)
-    (no-delivery : (n k user size : ℕ) → r .answer ≡ Ok (Delivered n k user size) → ⊥)
-    (sessions-are : r .to .sessions ≡ g .sessions) (timer-is : r .to .timer ≡ time) (sent-is : r .to .sent ≡ Some time)
-    (wanted-fit : (w : ℕ × ℕ) → r .to .wanted ≡ Some w → (w .0 < 2 ^ 48) × (w .1 < 2 ^ 16)) where
-
+      (r : Step) (shape : Shape) (shown : went-out (noted g c r) ≡ Some shape) (timed : group-time shape ≡ Some time) (aside-from : (n : ℕ) → n ≢ 0 → of-session n shape ≡ None)
+      (no-in : came-in (noted g c r) ≡ None) (unopened : (n : ℕ) → opens-by n c ≡ None)
+      (no-delivery : (n k user size : ℕ) → r .answer ≡ Ok (Delivered n k user size) → ⊥)
+      (sessions-are : r .to .sessions ≡ g .sessions) (held-is : r .to .held ≡ g .held) (timer-is : r .to .timer ≡ time) (sent-is : r .to .sent ≡ Some time)
+      (wanted-fit : (w : ℕ × ℕ) → r .to .wanted ≡ Some w → (w .0 < 2 ^ 48) × (w .1 < 2 ^ 16)) where
     out-is : time-out (noted g c r) ≡ Some time
     out-is = ap (given group-time) shown ∙ timed
 
     group-sent-fine : Fine set M g c r
-    group-sent-fine = record
-      { moved = λ n nz. aside set M g c n r sessions-are
+    group-sent-fine = record {
+      moved = λ n nz. aside set M g c n r sessions-are
           (record { no-in = ap (given (of-session n)) no-in; no-out = ap (given (of-session n)) shown ∙ aside-from n nz; no-delivery = λ k user size q. no-delivery n k user size q })
-          (opens-none (is-response (r .answer)) (opens-by n c) (unopened n))
-      ; fit = record { timer = omega arith; sessions = λ n s q. f .sessions n s (sym (ap (λ h. h n) sessions-are) ∙ q); wanted = wanted-fit }
-      ; clocks = record
-          { ticks = rw (ap (given group-time) no-in, out-is, still-time) (timer-is ∙ omega (arith, f .timer, time-later (g .timer) (g .sent)))
-          ; later = λ x q j h. let same = some-some time x (sym out-is ∙ q) in omega (arith, time-above (g .timer) (g .sent) j h)
-          ; kept = λ j h. rw sent-is (omega (arith, time-above (g .timer) (g .sent) j h))
-          ; reached = λ x q. let same = some-some time x (sym out-is ∙ q) in rw sent-is (omega arith)
-          ; window = λ w q. absurd (none-some w (sym (ap (given (of-session 0)) no-in) ∙ q))
-          ; genuine = λ k user size q. absurd (no-delivery 0 k user size q) } }
+          (opens-none (is-response (r .answer)) (opens-by n c) (unopened n));
+      fit = record { timer = omega arith; sessions = λ n s q. f .sessions n s (sym (ap (λ h. h n) sessions-are) ∙ q); wanted = wanted-fit };
+      clocks = record {
+        ticks = rw (ap (given group-time) no-in, out-is, still-time) (timer-is ∙ omega (arith, f .timer, time-later (g .timer) (g .sent)));
+        later = λ x q j h. let same = some-some time x (sym out-is ∙ q) in omega (arith, time-above (g .timer) (g .sent) j h);
+        kept = λ j h. rw sent-is (omega (arith, time-above (g .timer) (g .sent) j h));
+        reached = λ x q. let same = some-some time x (sym out-is ∙ q) in rw sent-is (omega arith);
+        window = λ w q. absurd (none-some w (sym (ap (given (of-session 0)) no-in) ∙ q));
+        genuine = λ k user size q. absurd (no-delivery 0 k user size q);
+      };
+      counted = counted-same g (r .to) sessions-are held-is;
+    }
 
   -- ANNOUNCE
 
@@ -285,13 +312,13 @@ module _ (set : Settings) (M : Meaning) (proper : Proper-settings set) where
         let l = good-length t good in
         cond-case (Fine set M g (announce t lot b)) (ltb at-time numbers) _ _
         (λ lt.
-          let below = ltb-true at-time numbers lt in
-          let r : Step = record { to = sent-at g at-time; answer = Ok (Sealed (length announced-octets) at-time); written = announced-octets } in
-          group-sent-fine g (announce t lot b) at-time f refl below refl r _
-          (ap (λ (w : List ℕ). readable (reading w)) (take-over announced-octets (b .out))
-            ∙ ap readable (wrapper-back M (set .group) 0 at-time (own-serial set) (tag-of lot) t (proper .group-length) (omega arith) below (serial-below set M proper) (omega arith) (l .0) (l .1)))
-          refl (λ n nz. let z = ne-eqb n 0 nz in rw z refl)
-          refl (λ k. refl) (λ k j u z q. no-sealed _ _ k j u z q) refl refl refl (f .wanted))
+        let below = ltb-true at-time numbers lt in
+        let r : Step = record { to = sent-at g at-time; answer = Ok (Sealed (length announced-octets) at-time); written = announced-octets } in
+        group-sent-fine g (announce t lot b) at-time f refl below refl r _
+        (ap (λ (w : List ℕ). readable (reading w)) (take-over announced-octets (b .out))
+        ∙ ap readable (wrapper-back M (set .group) 0 at-time (own-serial set) (tag-of lot) t (proper .group-length) (omega arith) below (serial-below set M proper) (omega arith) (l .0) (l .1)))
+        refl (λ n nz. let z = ne-eqb n 0 nz in rw z refl)
+        refl (λ k. refl) (λ k j u z q. no-sealed _ _ k j u z q) refl refl refl refl (f .wanted))
         (λ _. refused set M g (announce t lot b) no.TimesSpent refl f)
 
     pub announce-fine : Fine set M g (announce t lot b) (announced set M g t lot)
@@ -301,10 +328,12 @@ module _ (set : Settings) (M : Meaning) (proper : Proper-settings set) where
 
   module _ (g : Model) (lot : ℕ) (b : Buffers) (f : Fit g) where
     nothing-fine : Fine set M g (due lot b) (quietly g Nothing)
-    nothing-fine = record
-      { moved = λ n nz. aside set M g (due lot b) n (quietly g Nothing) refl (record { no-in = refl; no-out = refl; no-delivery = λ k user size q. no-nothing n k user size q }) refl
-      ; fit = f
-      ; clocks = idle set M g (due lot b) (quietly g Nothing) f refl refl refl refl refl refl (λ k user size q. no-nothing 0 k user size q) }
+    nothing-fine = record {
+      moved = λ n nz. aside set M g (due lot b) n (quietly g Nothing) refl (record { no-in = refl; no-out = refl; no-delivery = λ k user size q. no-nothing n k user size q }) refl;
+      fit = f;
+      clocks = idle set M g (due lot b) (quietly g Nothing) f refl refl refl refl refl refl (λ k user size q. no-nothing 0 k user size q);
+      counted = λ k. k;
+    }
 
     serial-fits : (o : Option (ℕ × ℕ)) → ((w : ℕ × ℕ) → o ≡ Some w → (w .0 < 2 ^ 48) × (w .1 < 2 ^ 16)) → notice-serial o (own-serial set) < 2 ^ 48
     serial-fits None h = serial-below set M proper
@@ -323,12 +352,12 @@ module _ (set : Settings) (M : Meaning) (proper : Proper-settings set) where
     notice-fine : Fine set M g (due lot b) (due-notice set M g lot)
     notice-fine = cond-case (Fine set M g (due lot b)) (eqb (g .countdown) 0 && ltb due-time numbers) _ _
         (λ y.
-          let below = ltb-true due-time numbers (and-parts (eqb (g .countdown) 0) (ltb due-time numbers) y .1) in
-          group-sent-fine g (due lot b) due-time f refl below refl (notify set M g due-time lot) _
-          (ap (λ (w : List ℕ). readable (reading w)) (take-over notice-octets (b .out))
-            ∙ ap readable (notice-back M (set .group) due-time (notice-serial (g .wanted) (own-serial set)) (notice-tag (g .wanted) lot) (proper .group-length) below (serial-fits (g .wanted) (f .wanted)) (tag-fits (g .wanted) (f .wanted))))
-          refl (λ n nz. refl)
-          refl (λ k. refl) (λ k j u z q. no-frame _ k j u z q) refl refl refl (λ w q. absurd (none-some w q)))
+        let below = ltb-true due-time numbers (and-parts (eqb (g .countdown) 0) (ltb due-time numbers) y .1) in
+        group-sent-fine g (due lot b) due-time f refl below refl (notify set M g due-time lot) _
+        (ap (λ (w : List ℕ). readable (reading w)) (take-over notice-octets (b .out))
+        ∙ ap readable (notice-back M (set .group) due-time (notice-serial (g .wanted) (own-serial set)) (notice-tag (g .wanted) lot) (proper .group-length) below (serial-fits (g .wanted) (f .wanted)) (tag-fits (g .wanted) (f .wanted))))
+        refl (λ n nz. refl)
+        refl (λ k. refl) (λ k j u z q. no-frame _ k j u z q) refl refl refl refl (λ w q. absurd (none-some w q)))
         (λ _. nothing-fine)
 
     lapsed-fine : (n : ℕ) (o : Option Session) → g .sessions n ≡ o → Fine set M g (due lot b) (end-lapsed set M g n o)

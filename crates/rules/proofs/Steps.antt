@@ -33,6 +33,7 @@ use Rattle.rules.specs.Meaning.{Meaning}
 use Rattle.rules.specs.Model.{Model, Session, put}
 use Rattle.rules.specs.Runs.{Event, lent, noted}
 use Rattle.rules.specs.Sessions.{above, opened-by}
+use Rattle.rules.proofs.Counting.{Counted, counted-put}
 use Rattle.rules.proofs.Facts.{Reached, cond-case, none-some, ok-ok, some-some, take-over}
 use Rattle.rules.proofs.Frames.{Wrapper-read, wrapper-read}
 use Rattle.rules.proofs.Moves.{Goes, Moved, Moves, Says, Still, about, above-reached, aside, goes, quiet, secrets, stops}
@@ -76,35 +77,38 @@ module _ (set : Settings) (M : Meaning) where
     pub moved : (n : ℕ) → n ≢ 0 → Moved set M g c n r
     pub fit : Fit (r .to)
     pub clocks : Clocks g c r
+    pub counted : Counted g → Counted (r .to)
 
   -- a step that is not of the group
   pub idle : (g : Model) (c : Call) (r : Step) → Fit g → milliseconds set M c ≡ 0 → r .to .timer ≡ g .timer → r .to .sent ≡ g .sent
       → time-in (noted g c r) ≡ None → time-out (noted g c r) ≡ None → arriving 0 (noted g c r) ≡ None
       → ((count user size : ℕ) → r .answer ≡ Ok (Delivered 0 count user size) → ⊥) → Clocks g c r
-  idle g c r f p t se i o w d = record
-    { ticks = rw (i, o, p, t) (omega (arith, f .timer))
-    ; later = λ x q. absurd (none-some x (sym o ∙ q))
-    ; kept = λ j h. rw se h
-    ; reached = λ x q. absurd (none-some x (sym o ∙ q))
-    ; window = λ v q. absurd (none-some v (sym w ∙ q))
-    ; genuine = λ count user size q. absurd (d count user size q) }
+  idle g c r f p t se i o w d = record {
+    ticks = rw (i, o, p, t) (omega (arith, f .timer));
+    later = λ x q. absurd (none-some x (sym o ∙ q));
+    kept = λ j h. rw se h;
+    reached = λ x q. absurd (none-some x (sym o ∙ q));
+    window = λ v q. absurd (none-some v (sym w ∙ q));
+    genuine = λ count user size q. absurd (d count user size q);
+  }
 
   pub no-err : (why : Refusal) (a : Answer) → _≡_ {A = Result Answer Refusal} (Err why) (Ok a) → ⊥
   no-err why a e = let z : _≡_ {A = ℕ} 0 1 = cc in omega arith
 
   pub refused : (g : Model) (c : Call) (why : Refusal) → milliseconds set M c ≡ 0 → Fit g → Fine g c (refuse g why)
-  refused g c why p f = record
-    { moved = λ n nz. aside set M g c n (refuse g why) refl (record { no-in = refl; no-out = refl; no-delivery = λ count user size q. no-err why _ q }) refl
-    ; fit = f
-    ; clocks = idle g c (refuse g why) f p refl refl refl refl refl (λ count user size q. no-err why _ q) }
+  refused g c why p f = record {
+    moved = λ n nz. aside set M g c n (refuse g why) refl (record { no-in = refl; no-out = refl; no-delivery = λ count user size q. no-err why _ q }) refl;
+    fit = f;
+    clocks = idle g c (refuse g why) f p refl refl refl refl refl (λ count user size q. no-err why _ q);
+    counted = λ k. k;
+  }
 
   -- A WRAPPER OF A SESSION GOES OUT
 
   module _ (g : Model) (c : Call) (m : ℕ) (s : Session) (t w : List ℕ) (own serial tag : ℕ) (lead about′ cipher code : List ℕ)
-    (nz : m ≢ 0) (back : reading w ≡ Ok (a-wrapper m own serial tag lead about′ cipher code)) (mine : own ≡ s .own)
-    (opens-to : M .opened (s .key) about′ lead cipher code ≡ Some t)
-    (r : Step) (is-written : r .written ≡ w) (shown : octets-out (r .answer) (over (r .written) (lent c .out)) ≡ Some (take (length w) (over (r .written) (lent c .out)))) where
-
+      (nz : m ≢ 0) (back : reading w ≡ Ok (a-wrapper m own serial tag lead about′ cipher code)) (mine : own ≡ s .own)
+      (opens-to : M .opened (s .key) about′ lead cipher code ≡ Some t)
+      (r : Step) (is-written : r .written ≡ w) (shown : octets-out (r .answer) (over (r .written) (lent c .out)) ≡ Some (take (length w) (over (r .written) (lent c .out)))) where
     abbrev leaf : Wrapped
     leaf = record { count = own; associated = lead; nonce = about′; ciphertext = cipher; mac = code }
 
@@ -133,15 +137,14 @@ module _ (set : Settings) (M : Meaning) where
   -- A WRAPPER OF A SESSION CAME IN AND OPENED
 
   module _ (g : Model) (frame offer : List ℕ) (lot : ℕ) (b : Buffers) (m count serial tag : ℕ) (associated nc ct mc : List ℕ)
-    (rd : reading frame ≡ Ok (a-wrapper m count serial tag associated nc ct mc)) (s : Session) (t : List ℕ)
-    (f : Fit g) (at : g .sessions m ≡ Some s) (nz : m ≢ 0) (ab : above (s .last) count ≡ true) (un : M .opened (s .key) nc associated ct mc ≡ Some t)
-    (r : Step) (a : Answer) (ok : r .answer ≡ Ok a) (ko : Option Telegram)
-    (else : (n : ℕ) → eqb n m ≡ false → leaving n (noted g (arrive frame offer lot b) r) ≡ None)
-    (here : kind-held set M (secrets s) (leaving m (noted g (arrive frame offer lot b) r)) ≡ ko)
-    (seals : (k : ℕ) → count-of (leaving m (noted g (arrive frame offer lot b) r)) ≡ Some k → k ≡ s .own)
-    (no-time : time-out (noted g (arrive frame offer lot b) r) ≡ None)
-    (delivers : (n k user size : ℕ) → a ≡ Delivered n k user size → (n ≡ m) × (k ≡ count) × (s .user ≡ Some user) × (take size (over (r .written) (b .out)) ≡ t)) where
-
+      (rd : reading frame ≡ Ok (a-wrapper m count serial tag associated nc ct mc)) (s : Session) (t : List ℕ)
+      (f : Fit g) (at : g .sessions m ≡ Some s) (nz : m ≢ 0) (ab : above (s .last) count ≡ true) (un : M .opened (s .key) nc associated ct mc ≡ Some t)
+      (r : Step) (a : Answer) (ok : r .answer ≡ Ok a) (ko : Option Telegram)
+      (else : (n : ℕ) → eqb n m ≡ false → leaving n (noted g (arrive frame offer lot b) r) ≡ None)
+      (here : kind-held set M (secrets s) (leaving m (noted g (arrive frame offer lot b) r)) ≡ ko)
+      (seals : (k : ℕ) → count-of (leaving m (noted g (arrive frame offer lot b) r)) ≡ Some k → k ≡ s .own)
+      (no-time : time-out (noted g (arrive frame offer lot b) r) ≡ None)
+      (delivers : (n k user size : ℕ) → a ≡ Delivered n k user size → (n ≡ m) × (k ≡ count) × (s .user ≡ Some user) × (take size (over (r .written) (b .out)) ≡ t)) where
     abbrev e : Event
     e = noted g (arrive frame offer lot b) r
 
@@ -179,25 +182,29 @@ module _ (set : Settings) (M : Meaning) where
     delivery n k user size q = delivers n k user size (ok-ok {E = Refusal} a (Delivered n k user size) (sym ok ∙ q))
 
     others : (n : ℕ) → eqb n m ≡ false → n ≢ 0 → Still n e
-    others n ne z = record
-      { no-in = in-else n ne; no-out = else n ne
-      ; no-delivery = λ k user size q. both-ways (eqb n m) ne (eq-eqb n m (delivery n k user size q .0)) }
+    others n ne z = record {
+      no-in = in-else n ne;
+      no-out = else n ne;
+      no-delivery = λ k user size q. both-ways (eqb n m) ne (eq-eqb n m (delivery n k user size q .0));
+    }
 
     genuine : (k user size : ℕ) → r .answer ≡ Ok (Delivered m k user size) → Genuine set M (s .key) m k size e
     genuine k user size q =
         let d = delivery m k user size q in
         let p = wrapper-read frame m count serial tag associated nc ct mc rd in
         let back = M .sound (s .key) nc associated ct mc t un in
-        record
-          { session = p .session
-          ; numbered = p .numbered ∙ sym (d .1)
-          ; sealed = rw (p .data-is, p .nonce-is, d .3, back .0, back .1) (sym (p .whole-is)) }
+        record {
+          session = p .session;
+          numbered = p .numbered ∙ sym (d .1);
+          sealed = rw (p .data-is, p .nonce-is, d .3, back .0, back .1) (sym (p .whole-is));
+        }
 
     says : Says set M m e s
-    says = record
-      { hears = λ k q j h. let same : count ≡ k = some-some count k (sym (ap count-of in-here) ∙ q) in omega (arith, above-reached (s .last) count ab j h)
-      ; seals = seals
-      ; delivers = λ k user size q. (delivery m k user size q .2, genuine k user size q) }
+    says = record {
+      hears = λ k q j h. let same : count ≡ k = some-some count k (sym (ap count-of in-here) ∙ q) in omega (arith, above-reached (s .last) count ab j h);
+      seals = seals;
+      delivers = λ k user size q. (delivery m k user size q .2, genuine k user size q);
+    }
 
     clocks-of : r .to .timer ≡ g .timer → r .to .sent ≡ g .sent → Clocks g (arrive frame offer lot b) r
     clocks-of t′ s′ =
@@ -205,26 +212,33 @@ module _ (set : Settings) (M : Meaning) where
         (in-else 0 (ne-eqb 0 m (λ z. nz (sym z)))) (λ k user size q. nz (sym (delivery 0 k user size q .0)))
 
     pub wrapper-stops : r .to ≡ put g m None → has ending ko || (taken (Ok a) && closing (telegram-kind t)) ≡ true → Fine g (arrive frame offer lot b) r
-    wrapper-stops to e′ = record
-      { moved = about set M g (arrive frame offer lot b) m None r to others (λ n ne z. no-opening n)
-          (subst (λ o. Moves set M m e o None) (sym at) (stops s (no-opening m) (ends-is ∙ e′) says))
-      ; fit = subst Fit (sym to) (fit-put g m None f (λ x q. absurd (none-some x q)))
-      ; clocks = clocks-of (ap (λ h. h .timer) to) (ap (λ h. h .sent) to) }
+    wrapper-stops to e′ = record {
+      moved = about set M g (arrive frame offer lot b) m None r to others (λ n ne z. no-opening n)
+          (subst (λ o. Moves set M m e o None) (sym at) (stops s (no-opening m) (ends-is ∙ e′) says));
+      fit = subst Fit (sym to) (fit-put g m None f (λ x q. absurd (none-some x q)));
+      clocks = clocks-of (ap (λ h. h .timer) to) (ap (λ h. h .sent) to);
+      counted = λ k. subst Counted (sym to) (counted-put g m None (f .sessions m s at .numbered) (λ q. absurd (none-some s (sym q ∙ at))) k);
+    }
 
     pub wrapper-goes : (own : ℕ) (u : Option ℕ) → r .to ≡ put g m (Some (opened-by s count own u))
         → has ending ko || (taken (Ok a) && closing (telegram-kind t)) ≡ false → s .own ≤ own → own ≤ last-time → (u ≡ None → own ≡ 0)
         → ((k : ℕ) → count-of (leaving m e) ≡ Some k → k < own)
         → ((v : ℕ) → u ≡ Some v → (s .user ≡ Some v) ⊎ Signs-in set M (secrets s) m v e) → Fine g (arrive frame offer lot b) r
-    wrapper-goes own u to e′ le small none new user = record
-      { moved = about set M g (arrive frame offer lot b) m (Some (opened-by s count own u)) r to others (λ n ne z. no-opening n)
+    wrapper-goes own u to e′ le small none new user = record {
+      moved = about set M g (arrive frame offer lot b) m (Some (opened-by s count own u)) r to others (λ n ne z. no-opening n)
           (subst (λ o. Moves set M m e o (Some (opened-by s count own u))) (sym at) (goes s (opened-by s count own u) (no-opening m) (ends-is ∙ e′) says
-            (record
-              { secrets-kept = refl
-              ; last-kept = λ j h. omega (arith, above-reached (s .last) count ab j h)
-              ; last-new = λ k q. let same : count ≡ k = some-some count k (sym (ap count-of in-here) ∙ q) in omega arith
-              ; own-kept = le; own-new = new; user-new = user })))
-      ; fit = subst Fit (sym to) (fit-put g m (Some (opened-by s count own u)) f (λ x q.
+          (record {
+            secrets-kept = refl;
+            last-kept = λ j h. omega (arith, above-reached (s .last) count ab j h);
+            last-new = λ k q. let same : count ≡ k = some-some count k (sym (ap count-of in-here) ∙ q) in omega arith;
+            own-kept = le;
+            own-new = new;
+            user-new = user;
+          })));
+      fit = subst Fit (sym to) (fit-put g m (Some (opened-by s count own u)) f (λ x q.
           let same : opened-by s count own u ≡ x = some-some _ x q in
           let good = f .sessions m s at in
-          subst (Good-session m) same (record { nonzero = nz; numbered = good .numbered; keyed = good .keyed; countable = small; fresh = none })))
-      ; clocks = clocks-of (ap (λ h. h .timer) to) (ap (λ h. h .sent) to) }
+          subst (Good-session m) same (record { nonzero = nz; numbered = good .numbered; keyed = good .keyed; countable = small; fresh = none })));
+      clocks = clocks-of (ap (λ h. h .timer) to) (ap (λ h. h .sent) to);
+      counted = λ k. subst Counted (sym to) (counted-put g m (Some (opened-by s count own u)) (f .sessions m s at .numbered) (λ q. absurd (none-some s (sym q ∙ at))) k);
+    }

@@ -15,9 +15,15 @@ within t tolerance time = ltb t (time + tolerance)
 
 -- the gateway follows: the timer is t from now on
 abbrev pub follow : Settings → Model → ℕ → ℕ → Model
-follow set g t lot = record
-  { timer = t; sent = g .sent; keeper = false; wanted = None; countdown = 10000 + 4 * sync set + lot % (10 * sync set + 1)
-  ; held = g .held; sessions = g .sessions }
+follow set g t lot = record {
+  timer = t;
+  sent = g .sent;
+  keeper = false;
+  wanted = None;
+  countdown = 10000 + 4 * sync set + lot % (10 * sync set + 1);
+  held = g .held;
+  sessions = g .sessions;
+}
 
 -- the first frame to which a reply is wanted stays the one
 abbrev pub wanting : Option (ℕ × ℕ) → ℕ → ℕ → Option (ℕ × ℕ)
@@ -30,9 +36,15 @@ reply-time set false lot = 100 + 2 * sync set + lot % (10 * sync set + 1)
 
 -- a frame that is late wants a reply
 abbrev pub want-reply : Settings → Model → ℕ → ℕ → ℕ → Model
-want-reply set g serial tag lot = record
-  { timer = g .timer; sent = g .sent; keeper = g .keeper; wanted = wanting (g .wanted) serial tag; countdown = min (g .countdown) (reply-time set (g .keeper) lot)
-  ; held = g .held; sessions = g .sessions }
+want-reply set g serial tag lot = record {
+  timer = g .timer;
+  sent = g .sent;
+  keeper = g .keeper;
+  wanted = wanting (g .wanted) serial tag;
+  countdown = min (g .countdown) (reply-time set (g .keeper) lot);
+  held = g .held;
+  sessions = g .sessions;
+}
 
 -- a frame of the group with a time: ahead of the timer, in step with it, behind but tolerated, or late
 abbrev pub heard : Settings → Model → ℕ → ℕ → ℕ → ℕ → Model
@@ -50,12 +62,12 @@ next-time t (Some last) = max t (last + 1)
 -- the gateway after a frame to the group
 abbrev pub sent-at : Model → ℕ → Model
 sent-at g time = record
-  { timer = time; sent = Some time; keeper = g .keeper; wanted = g .wanted; countdown = g .countdown; held = g .held; sessions = g .sessions }
+    { timer = time; sent = Some time; keeper = g .keeper; wanted = g .wanted; countdown = g .countdown; held = g .held; sessions = g .sessions }
 
 -- and after a timer notify: the gateway keeps the time
 abbrev pub notified-at : Settings → Model → ℕ → ℕ → Model
 notified-at set g time lot = record
-  { timer = time; sent = Some time; keeper = true; wanted = None; countdown = 10000 + lot % (3 * sync set + 1); held = g .held; sessions = g .sessions }
+    { timer = time; sent = Some time; keeper = true; wanted = None; countdown = 10000 + lot % (3 * sync set + 1); held = g .held; sessions = g .sessions }
 
 -- the tag that a lot makes
 abbrev pub tag-of : ℕ → ℕ

@@ -9,3 +9,5 @@ pub mod Sessions
 pub mod Rules
 pub mod Runs
 pub mod Law
+pub mod Theorems
+pub mod Samples

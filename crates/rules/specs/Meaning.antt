@@ -13,5 +13,4 @@ pub record Meaning : Type 0 where
   pub long : Long ciphertext
   pub sound : Sound ciphertext mac opened
   pub complete : Complete ciphertext mac opened
-
   pub wide : Wide mac

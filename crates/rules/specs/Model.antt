@@ -47,6 +47,12 @@ held-after (Some s) (Some t) n = n
 
 -- session n becomes o; no other changes
 abbrev pub put : Model → ℕ → Option Session → Model
-put g n o = record
-  { timer = g .timer; sent = g .sent; keeper = g .keeper; wanted = g .wanted; countdown = g .countdown
-  ; held = held-after (g .sessions n) o (g .held); sessions = λ m. cond (eqb m n) o (g .sessions m) }
+put g n o = record {
+  timer = g .timer;
+  sent = g .sent;
+  keeper = g .keeper;
+  wanted = g .wanted;
+  countdown = g .countdown;
+  held = held-after (g .sessions n) o (g .held);
+  sessions = λ m. cond (eqb m n) o (g .sessions m);
+}

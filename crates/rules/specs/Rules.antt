@@ -65,7 +65,7 @@ module _ (set : Settings) (M : Meaning) where
 
   abbrev pub open-session : Model → List ℕ → List ℕ → Step
   open-session g x offer = record
-    { to = put g (offer-session offer) (Some (begun (offer-key offer) x (offer-y offer))); answer = Ok (Frame (length (response-to x offer))); written = response-to x offer }
+      { to = put g (offer-session offer) (Some (begun (offer-key offer) x (offer-y offer))); answer = Ok (Frame (length (response-to x offer))); written = response-to x offer }
 
   abbrev pub no-slot : Model → Step
   no-slot g = record { to = g; answer = Ok (Frame (length no-session)); written = no-session }
@@ -157,10 +157,16 @@ module _ (set : Settings) (M : Meaning) where
 
   abbrev pub passed : Model → ℕ → Step
   passed g ms = quietly
-    (record
-      { timer = min last-time (g .timer + ms); sent = g .sent; keeper = g .keeper; wanted = g .wanted; countdown = g .countdown - ms
-      ; held = g .held; sessions = λ n. all-waited ms (g .sessions n) })
-    Taken
+      (record {
+        timer = min last-time (g .timer + ms);
+        sent = g .sent;
+        keeper = g .keeper;
+        wanted = g .wanted;
+        countdown = g .countdown - ms;
+        held = g .held;
+        sessions = λ n. all-waited ms (g .sessions n);
+      })
+      Taken
 
   -- DUE
 

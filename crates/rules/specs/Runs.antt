@@ -33,7 +33,7 @@ pub record Event : Type 0 where
 -- what a step leaves of itself: what it wrote stands in front of the output, and the work area is all zeros
 abbrev pub noted : Model → Call → Step → Event
 noted g c r = record
-  { call = c; answer = r .answer; out = over (r .written) (lent c .out); work = replicate (length (lent c .work)) 0; before = g .timer; after = r .to .timer }
+    { call = c; answer = r .answer; out = over (r .written) (lent c .out); work = replicate (length (lent c .work)) 0; before = g .timer; after = r .to .timer }
 
 module _ (set : Settings) (M : Meaning) where
   abbrev pub event : Model → Call → Event
