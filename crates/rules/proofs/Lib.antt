@@ -10,3 +10,4 @@ pub mod Kept
 pub mod Resting
 pub mod Naming
 pub mod SampleRuns
+pub mod Refusing

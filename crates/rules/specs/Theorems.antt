@@ -1,4 +1,4 @@
--- Two theorems about the rules beside the law. Assumes nothing.
+-- Theorems about the rules beside the law. Assumes nothing.
 use mathlib.Core.Bool.{Bool, true, false, cond, _&&_}
 use mathlib.Core.List.{List, [], _∷_}
 use mathlib.Core.Logic.{_≢_}
@@ -14,6 +14,7 @@ use Rattle.octets.specs.Runs.{number}
 use Rattle.frames.specs.Reading.{Shape, a-notice, a-request, a-wrapper, reading}
 use Rattle.frames.specs.declared.reading.Unreadable.{Unreadable}
 use Rattle.rules.specs.declared.answers.Answer.the-variants.{Nothing}
+use Rattle.rules.specs.declared.answers.Refusal.{Refusal}
 use Rattle.rules.specs.declared.settings.Settings.{Settings}
 use Rattle.rules.specs.Calls.{Buffers, Call, announce, arrive, due, hang-up, pass, send}
 use Rattle.rules.specs.Law.{Proper-calls, Proper-settings}
@@ -52,6 +53,12 @@ abbrev pub Changes-one-session : Type 0
 Changes-one-session =
     (set : Settings) (M : Meaning) (g : Model) (c : Call) → one-session c ≡ true
     → (n : ℕ) → named c ≢ Some n → next set M g c .to .sessions n ≡ g .sessions n
+
+-- a call that is refused changes nothing and writes nothing
+abbrev pub Refusals-change-nothing : Type 0
+Refusals-change-nothing =
+    (set : Settings) (M : Meaning) (g : Model) (c : Call) (why : Refusal) → next set M g c .answer ≡ Err why
+    → (next set M g c .to ≡ g) × (next set M g c .written ≡ [])
 
 -- due, repeated with other lots and buffers that are large enough, and no other call between; the newest first
 abbrev pub dues : List (ℕ × Buffers) → List Call

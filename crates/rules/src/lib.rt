@@ -5,7 +5,7 @@ pub mod settings;
 
 ghost use Rattle.rules.specs.Law.{Every-run-keeps-the-law};
 ghost use Rattle.rules.specs.Samples.{All-samples};
-ghost use Rattle.rules.specs.Theorems.{Changes-one-session, Nothing-due-after-nine};
+ghost use Rattle.rules.specs.Theorems.{Changes-one-session, Nothing-due-after-nine, Refusals-change-nothing};
 
 // After any list of calls, refused ones included, from all settings that making accepts and over every sealer.
 pub fn every_run_keeps_the_law()
@@ -23,4 +23,8 @@ pub fn nothing_is_due_after_nine_calls()
 
 pub fn a_call_changes_one_session()
     ensures { λ _. ⌜ Changes-one-session ⌝ }
+{}
+
+pub fn a_refusal_changes_nothing()
+    ensures { λ _. ⌜ Refusals-change-nothing ⌝ }
 {}
