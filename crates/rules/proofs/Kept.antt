@@ -21,7 +21,7 @@ use Rattle.rules.specs.declared.answers.Refusal.the-variants as no
 use Rattle.rules.specs.declared.settings.Settings.{Settings}
 use Rattle.rules.specs.Calls.{Buffers, Call, Step, announce, arrive, due, hang-up, pass, refuse, send}
 use Rattle.rules.specs.Law as law
-use Rattle.rules.specs.Law.{Every-run-keeps-the-law, Law, Proper-call, Proper-calls, Proper-settings, Throughout, arriving, clock, count-of, larger, latest, leaving, life, milliseconds, time-in, time-out}
+use Rattle.rules.specs.Law.{Law, Proper-call, Proper-calls, Proper-settings, Runs-keep-the-law, Throughout, arriving, clock, count-of, larger, latest, leaving, life, milliseconds, time-in, time-out}
 use Rattle.rules.specs.Limits.{last-time, numbers, session-numbers}
 use Rattle.rules.specs.Making.{acceptable, latency, sync}
 use Rattle.rules.specs.Meaning.{Meaning}
@@ -182,5 +182,5 @@ module _ (set : Settings) (M : Meaning) (proper : Proper-settings set) where
   inv-all ok [] p = inv-new ok
   inv-all ok (c ∷ calls) p = inv-next (state set M calls) c (history set M calls) (p .0) (inv-all ok calls (p .1))
 
-pub every-run-keeps-the-law : Every-run-keeps-the-law
-every-run-keeps-the-law set M proper ok calls p = inv-all set M proper ok calls p .laws
+pub runs-keep-the-law : (M : Meaning) → Runs-keep-the-law M
+runs-keep-the-law M set proper ok calls p = inv-all set M proper ok calls p .laws

@@ -6,6 +6,7 @@ use lib.Dec.{ltb}
 use Rattle.std.specs.declared.option.Option.{Option}
 use Rattle.std.specs.declared.option.Option.the-variants.{Some, None}
 use Rattle.rules.specs.declared.settings.Settings.{Settings}
+use Rattle.rules.specs.Limits.{notify-time, reply-delay}
 use Rattle.rules.specs.Making.{latency, sync}
 use Rattle.rules.specs.Model.{Model}
 
@@ -20,7 +21,7 @@ follow set g t lot = record {
   sent = g .sent;
   keeper = false;
   wanted = None;
-  countdown = 10000 + 4 * sync set + lot % (10 * sync set + 1);
+  countdown = notify-time + 4 * sync set + lot % (10 * sync set + 1);
   held = g .held;
   sessions = g .sessions;
 }
@@ -31,8 +32,8 @@ wanting None serial tag = Some (serial, tag)
 wanting (Some w) serial tag = Some w
 
 abbrev pub reply-time : Settings → Bool → ℕ → ℕ
-reply-time set true lot = 100 + lot % (sync set + 1)
-reply-time set false lot = 100 + 2 * sync set + lot % (10 * sync set + 1)
+reply-time set true lot = reply-delay + lot % (sync set + 1)
+reply-time set false lot = reply-delay + 2 * sync set + lot % (10 * sync set + 1)
 
 -- a frame that is late wants a reply
 abbrev pub want-reply : Settings → Model → ℕ → ℕ → ℕ → Model
@@ -67,7 +68,7 @@ sent-at g time = record
 -- and after a timer notify: the gateway keeps the time
 abbrev pub notified-at : Settings → Model → ℕ → ℕ → Model
 notified-at set g time lot = record
-    { timer = time; sent = Some time; keeper = true; wanted = None; countdown = 10000 + lot % (3 * sync set + 1); held = g .held; sessions = g .sessions }
+    { timer = time; sent = Some time; keeper = true; wanted = None; countdown = notify-time + lot % (3 * sync set + 1); held = g .held; sessions = g .sessions }
 
 -- the tag that a lot makes
 abbrev pub tag-of : ℕ → ℕ

@@ -333,8 +333,8 @@ abbrev pub Proper-calls : List Call → Type 0
 Proper-calls [] = Unit {0}
 Proper-calls (c ∷ calls) = Proper-call c × Proper-calls calls
 
--- every run of every list of calls keeps the law, from all settings that making accepts, over every sealer
-abbrev pub Every-run-keeps-the-law : Type 0
-Every-run-keeps-the-law =
-    (set : Settings) (M : Meaning) → Proper-settings set → acceptable set ≡ true
+-- every run of every list of calls keeps the law, from all settings that making accepts
+abbrev pub Runs-keep-the-law : Meaning → Type 0
+Runs-keep-the-law M =
+    (set : Settings) → Proper-settings set → acceptable set ≡ true
     → (calls : List Call) → Proper-calls calls → Throughout (Law set M) (history set M calls)

@@ -1,4 +1,4 @@
--- The numbers that a site may want changed, each in one place. Assumes nothing.
+-- Slots, numbers, times and tolerances, each in one place. Assumes nothing.
 use mathlib.Core.Bool.{Bool, not, _||_}
 use Prim.Native.Nat.{ℕ, _-_, _^_}
 use lib.Dec.{eqb}
@@ -25,6 +25,13 @@ sign-in-time = 10000
 
 abbrev pub idle-time : ℕ
 idle-time = 60000
+
+-- milliseconds that a gateway waits at least before its next timer notify, and before a reply to a late frame
+abbrev pub notify-time : ℕ
+notify-time = 10000
+
+abbrev pub reply-delay : ℕ
+reply-delay = 100
 
 abbrev pub default-latency : ℕ
 default-latency = 1000

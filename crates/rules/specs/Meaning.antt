@@ -14,3 +14,8 @@ pub record Meaning : Type 0 where
   pub sound : Sound ciphertext mac opened
   pub complete : Complete ciphertext mac opened
   pub wide : Wide mac
+
+-- the meaning that a sealer's members make
+abbrev pub meant : (ciphertext mac : Sealed) (opened : Openings) → Apart ciphertext → Long ciphertext → Sound ciphertext mac opened → Complete ciphertext mac opened → Wide mac → Meaning
+meant ciphertext mac opened apart long sound complete wide = record
+    { ciphertext = ciphertext; mac = mac; opened = opened; apart = apart; long = long; sound = sound; complete = complete; wide = wide }

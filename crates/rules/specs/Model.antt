@@ -6,6 +6,7 @@ use lib.Dec.{eqb}
 use Rattle.std.specs.declared.option.Option.{Option}
 use Rattle.std.specs.declared.option.Option.the-variants.{Some, None}
 use Rattle.rules.specs.declared.settings.Settings.{Settings}
+use Rattle.rules.specs.Limits.{notify-time}
 use Rattle.rules.specs.Making.{sync}
 
 pub record Session : Type 0 where
@@ -36,7 +37,7 @@ pub record Model : Type 0 where
 
 -- a new gateway is follower, wants nothing and has no session
 abbrev pub new : Settings → Model
-new set = record { timer = set .start; sent = None; keeper = false; wanted = None; countdown = 10000 + 4 * sync set; held = 0; sessions = λ _. None }
+new set = record { timer = set .start; sent = None; keeper = false; wanted = None; countdown = notify-time + 4 * sync set; held = 0; sessions = λ _. None }
 
 -- how many sessions are held where one goes from before to after
 abbrev pub held-after : Option Session → Option Session → ℕ → ℕ

@@ -11,6 +11,7 @@ use Rattle.std.specs.declared.option.Option.the-variants.{Some, None}
 use Rattle.std.specs.declared.result.Result.{Result}
 use Rattle.std.specs.declared.result.Result.the-variants.{Ok, Err}
 use Rattle.octets.specs.Runs.{number}
+use Rattle.frames.specs.Limits.{largest-frame}
 use Rattle.frames.specs.Reading.{Shape, a-notice, a-request, a-wrapper, reading}
 use Rattle.frames.specs.declared.reading.Unreadable.{Unreadable}
 use Rattle.rules.specs.declared.answers.Answer.the-variants.{Nothing}
@@ -39,7 +40,7 @@ named (send n t b) = Some n
 named (announce t lot b) = None
 named (hang-up n b) = Some n
 
--- pass and due may change every session
+-- pass changes every session, and due ends one that it does not name
 abbrev pub one-session : Call → Bool
 one-session (arrive frame offer lot b) = true
 one-session (pass ms) = false
@@ -60,14 +61,10 @@ Refusals-change-nothing =
     (set : Settings) (M : Meaning) (g : Model) (c : Call) (why : Refusal) → next set M g c .answer ≡ Err why
     → (next set M g c .to ≡ g) × (next set M g c .written ≡ [])
 
--- due, repeated with other lots and buffers that are large enough, and no other call between; the newest first
-abbrev pub dues : List (ℕ × Buffers) → List Call
-dues [] = []
-dues (d ∷ ds) = due (d .0) (d .1) ∷ dues ds
-
+-- lots and buffers for calls of due with no other call between, the buffers large enough; newest first
 abbrev pub All-roomy : List (ℕ × Buffers) → Type 0
 All-roomy [] = Unit {0}
-All-roomy (d ∷ ds) = (leb 512 (length (d .1 .out)) && leb 512 (length (d .1 .work)) ≡ true) × All-roomy ds
+All-roomy (d ∷ ds) = (leb largest-frame (length (d .1 .out)) && leb largest-frame (length (d .1 .work)) ≡ true) × All-roomy ds
 
 abbrev pub after : Settings → Meaning → Model → List (ℕ × Buffers) → Model
 after set M g [] = g
@@ -77,5 +74,5 @@ after set M g (d ∷ ds) = next set M (after set M g ds) (due (d .0) (d .1)) .to
 abbrev pub Nothing-due-after-nine : Type 0
 Nothing-due-after-nine =
     (set : Settings) (M : Meaning) → Proper-settings set → acceptable set ≡ true → (calls : List Call) → Proper-calls calls
-    → (ds : List (ℕ × Buffers)) → length ds ≡ 9 → All-roomy ds → (lot : ℕ) (b : Buffers) → leb 512 (length (b .out)) && leb 512 (length (b .work)) ≡ true
+    → (ds : List (ℕ × Buffers)) → length ds ≡ 9 → All-roomy ds → (lot : ℕ) (b : Buffers) → leb largest-frame (length (b .out)) && leb largest-frame (length (b .work)) ≡ true
     → next set M (after set M (state set M calls) ds) (due lot b) .answer ≡ Ok Nothing

@@ -3,13 +3,15 @@
 pub mod answers;
 pub mod settings;
 
-ghost use Rattle.rules.specs.Law.{Every-run-keeps-the-law};
+ghost use Rattle.rules.specs.Law.{Runs-keep-the-law};
+ghost use Rattle.rules.specs.Meaning.{meant};
 ghost use Rattle.rules.specs.Samples.{All-samples};
 ghost use Rattle.rules.specs.Theorems.{Changes-one-session, Nothing-due-after-nine, Refusals-change-nothing};
+use sealer::Sealer;
 
-// After any list of calls, refused ones included, from all settings that making accepts and over every sealer.
-pub fn every_run_keeps_the_law()
-    ensures { λ _. ⌜ Every-run-keeps-the-law ⌝ }
+// After any list of calls, refused ones included, from all settings that making accepts, over any sealer.
+pub fn every_run_keeps_the_law<S: Sealer>()
+    ensures { λ _. ⌜ Runs-keep-the-law (meant (S·Sealer .ciphertext) (S·Sealer .mac) (S·Sealer .opened) (S·Sealer .apart) (S·Sealer .long) (S·Sealer .sound) (S·Sealer .complete) (S·Sealer .wide)) ⌝ }
 {}
 
 // Short runs worked by hand.

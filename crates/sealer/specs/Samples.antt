@@ -11,7 +11,7 @@ use Rattle.sealer.specs.Mac.{mac-of}
 abbrev f : List ℕ → List ℕ
 f block = xor block (replicate 16 0x11)
 
--- the MAC of a timer notice of time 5, serial 00FA00000001 and tag 0007
+-- the MAC of a timer notify of time 5, serial 00FA00000001 and tag 0007
 abbrev pub Notice-sample : Type 0
 Notice-sample =
     mac-of f (0x00 ∷ 0x00 ∷ 0x00 ∷ 0x00 ∷ 0x00 ∷ 0x05 ∷ 0x00 ∷ 0xfa ∷ 0x00 ∷ 0x00 ∷ 0x00 ∷ 0x01 ∷ 0x00 ∷ 0x07 ∷ []) (0x06 ∷ 0x10 ∷ 0x09 ∷ 0x55 ∷ 0x00 ∷ 0x24 ∷ []) []
