@@ -1,6 +1,6 @@
 -- The field of 256 elements of FIPS 197: an octet is a polynomial over its bits, modulo x^8 + x^4 + x^3 + x + 1. Assumes nothing.
 use mathlib.Core.Bool.{Bool, cond}
-use Prim.Native.Nat.{ℕ, zero, suc, _+_, _*_, _/_, _%_, _^_}
+use Prim.Native.Nat.{ℕ, zero, suc, _*_, _/_, _%_}
 use lib.Bits.{bitXor}
 use lib.Dec.{eqb, ltb}
 

@@ -3,7 +3,6 @@ use mathlib.Core.List.{List, []}
 use mathlib.Core.Path.{_≡_, refl, _∙_}
 use Prim.Native.Nat.{ℕ}
 use lib.ListN.{length, getD}
-use Rattle.std.proofs.shelf.Counted.{length-map-counting}
 use Rattle.octets.proofs.Laws.{xor-keeps-length}
 use Rattle.octets.specs.Runs.{xor}
 use Rattle.cipher.specs.Aes.{add-round-key, after, aes-128, rounds, schedule, shift-rows, sub-bytes}

@@ -1,30 +1,28 @@
 -- What a frame that was read tells of its octets. Assumes nothing.
-use mathlib.Core.Path.{_≡_, _∙_, ap, sym, refl}
-use mathlib.Core.List.{List, [], _∷_, _++_}
-use mathlib.Core.Bool.{Bool, true, false, cond}
-use Prim.Native.Nat.{ℕ, zero, suc, _+_, _-_, _<_, _≤_}
+use mathlib.Core.Path.{_≡_, _∙_, ap, sym}
+use mathlib.Core.List.{List, [], _++_}
+use Prim.Native.Nat.{ℕ, _+_, _-_, _≤_}
 use native.Mathlib.Omega.{arith}
 use lib.ListN.{length, getD, take, drop}
 use Rattle.std.specs.declared.option.Option.{Option}
 use Rattle.std.specs.declared.option.Option.the-variants.{Some, None}
-use Rattle.std.specs.declared.result.Result.the-variants.{Ok, Err}
+use Rattle.std.specs.declared.result.Result.the-variants.{Ok}
 use Rattle.std.proofs.shelf.Lists.{length-drop, length-take-le, take-append-drop, take-take, drop-take, take-all}
 use Rattle.std.proofs.shelf.Ways.{tells}
-use Rattle.octets.specs.Laws.{Octets}
 use Rattle.octets.specs.Runs.{run}
-use Rattle.octets.proofs.Laws.{run-is-part}
+use Rattle.octets.proofs.Laws.{octet-at, run-is-part}
 use Rattle.frames.specs.Headers.{part, kind, stated-length, stated-kind}
-use Rattle.frames.specs.Reading.{Shape, by-header, by-kind, reading, wrapper-shape, notice-shape, a-wrapper, a-notice}
-use Rattle.frames.specs.Telegrams.{sign-in, sign-in-of}
-use Rattle.frames.specs.Writing.{authenticate, authenticate-lead}
+use Rattle.frames.specs.Reading.{by-header, wrapper-shape, notice-shape, a-wrapper, a-notice}
+use Rattle.frames.specs.Telegrams.{sign-in-of}
+use Rattle.frames.specs.Writing.{authenticate-lead}
 use Rattle.frames.specs.Laws as law
 
-from-wrapper : (o : Option ℕ) (f : List ℕ) (s k e t : ℕ) (a n c m : List ℕ) → by-header o f ≡ Ok (a-wrapper s k e t a n c m)
+pub from-wrapper : (o : Option ℕ) (f : List ℕ) (s k e t : ℕ) (a n c m : List ℕ) → by-header o f ≡ Ok (a-wrapper s k e t a n c m)
     → (44 ≤ length f) × (length f ≤ 512) × (wrapper-shape f ≡ a-wrapper s k e t a n c m)
 from-wrapper None f s k e t a n c m h = let z : _≡_ {A = ℕ} 0 1 = cc in absurd (omega arith)
 from-wrapper (Some i) f s k e t a n c m h = (grind (arith, tells), grind (arith, tells), grind (arith, tells))
 
-from-notice : (o : Option ℕ) (f : List ℕ) (k e t : ℕ) (a n m : List ℕ) → by-header o f ≡ Ok (a-notice k e t a n m)
+pub from-notice : (o : Option ℕ) (f : List ℕ) (k e t : ℕ) (a n m : List ℕ) → by-header o f ≡ Ok (a-notice k e t a n m)
     → (length f ≡ 36) × (notice-shape f ≡ a-notice k e t a n m)
 from-notice None f k e t a n m h = let z : _≡_ {A = ℕ} 0 1 = cc in absurd (omega arith)
 from-notice (Some i) f k e t a n m h = (grind (arith, tells), grind (arith, tells))
@@ -89,15 +87,10 @@ notice-is-its-parts f time serial tag a n m h =
       ap length (sym (q .2)) ∙ part-length f 16 20 (omega arith),
     )
 
-octet-at : (t : List ℕ) (i : ℕ) → Octets t → getD t i 0 < 256
-octet-at [] i o = omega arith
-octet-at (x ∷ xs) zero o = o .0
-octet-at (x ∷ xs) (suc i) o = octet-at xs i (o .1)
-
-from-header : (t : List ℕ) (k : ℕ) → stated-kind t ≡ Some k → (getD t 0 0 ≡ 6) × (getD t 1 0 ≡ 16) × (kind t ≡ k) × (stated-length t ≡ length t)
+pub from-header : (t : List ℕ) (k : ℕ) → stated-kind t ≡ Some k → (getD t 0 0 ≡ 6) × (getD t 1 0 ≡ 16) × (kind t ≡ k) × (stated-length t ≡ length t)
 from-header t k h = (grind (arith, tells), grind (arith, tells), grind (arith, tells), grind (arith, tells))
 
-from-sign-in : (o : Option ℕ) (t : List ℕ) (user : ℕ) (m : List ℕ) → sign-in-of o t ≡ Some (user, m)
+pub from-sign-in : (o : Option ℕ) (t : List ℕ) (user : ℕ) (m : List ℕ) → sign-in-of o t ≡ Some (user, m)
     → (o ≡ Some 0x0953) × (length t ≡ 24) × (getD t 6 0 ≡ 0) × (_≡_ {A = Option (ℕ × List ℕ)} (Some (getD t 7 0, part 16 8 t)) (Some (user, m)))
 from-sign-in None t user m h = let z : _≡_ {A = ℕ} 0 1 = cc in absurd (omega arith)
 from-sign-in (Some k) t user m h =
@@ -112,7 +105,7 @@ abbrev mac-of : Option (ℕ × List ℕ) → List ℕ
 mac-of (Some p) = p .1
 mac-of None = []
 
-first-octets : (t : List ℕ) (user : ℕ) → getD t 0 0 ≡ 0x06 → getD t 1 0 ≡ 0x10 → getD t 2 0 ≡ 0x09 → getD t 3 0 ≡ 0x53 → getD t 4 0 ≡ 0x00 → getD t 5 0 ≡ 0x18 → getD t 6 0 ≡ 0x00 → getD t 7 0 ≡ user
+pub first-octets : (t : List ℕ) (user : ℕ) → getD t 0 0 ≡ 0x06 → getD t 1 0 ≡ 0x10 → getD t 2 0 ≡ 0x09 → getD t 3 0 ≡ 0x53 → getD t 4 0 ≡ 0x00 → getD t 5 0 ≡ 0x18 → getD t 6 0 ≡ 0x00 → getD t 7 0 ≡ user
     → run 8 0 t ≡ authenticate-lead user
 unfolding authenticate-lead
 first-octets t user e0 e1 e2 e3 e4 e5 e6 e7 = rw (e0, e1, e2, e3, e4, e5, e6, e7)

@@ -1,12 +1,12 @@
 -- Parts written one after the other into an output. Assumes nothing.
 use borrow.Author.Needs.{needs}
 use borrow.Rule.Slice.PartMut.{putMid}
-use mathlib.Core.Path.{_≡_, _∙_, ap, sym, refl}
+use mathlib.Core.Path.{_≡_, _∙_, ap}
 use mathlib.Core.List.{List, _++_}
 use Prim.Native.Nat.{ℕ, _+_, _-_}
 use native.Mathlib.Omega.{arith}
-use lib.ListN.{length, take, drop}
-use Rattle.std.proofs.shelf.Lists.{append-assoc, length-append, append-nil, drop-all}
+use lib.ListN.{length, drop}
+use Rattle.std.proofs.shelf.Lists.{length-append, append-nil, drop-all}
 use Rattle.std.proofs.shelf.Parts.{overwrites}
 use Rattle.octets.specs.Runs.{over}
 

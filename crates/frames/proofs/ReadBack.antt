@@ -1,28 +1,26 @@
 -- What was written is read back. Assumes nothing.
 use mathlib.Core.Path.{_≡_, _∙_, ap, sym, refl}
-use mathlib.Core.List.{List, [], _∷_, _++_}
-use mathlib.Core.Bool.{Bool, true, false, cond, _&&_, not}
-use mathlib.Core.Logic.{_≢_}
-use Prim.Native.Nat.{ℕ, _+_, _-_, _^_, _%_, _<_, _≤_}
+use mathlib.Core.List.{List, [], _++_}
+use mathlib.Core.Bool.{true}
+use Prim.Native.Nat.{ℕ, _+_, _-_, _^_, _<_, _≤_}
 use native.Mathlib.Omega.{arith}
-use lib.Dec.{leb, eqb}
-use lib.ListN.{length, getD, take, drop}
+use lib.Dec.{leb}
+use lib.ListN.{length, getD, take}
 use Rattle.std.specs.declared.option.Option.{Option}
-use Rattle.std.specs.declared.option.Option.the-variants.{Some, None}
-use Rattle.std.specs.declared.result.Result.the-variants.{Ok, Err}
+use Rattle.std.specs.declared.option.Option.the-variants.{Some}
+use Rattle.std.specs.declared.result.Result.the-variants.{Ok}
 use Rattle.std.proofs.shelf.Lists.{append-assoc, length-append, take-at, drop-at, take-all}
 use Rattle.std.proofs.shelf.Ways.{tells}
 use Rattle.std.proofs.shelf.Tests.{le-leb}
 use Rattle.sealer.specs.Sealing.{Sealed, Openings, Long, Wide, Complete}
 use Rattle.octets.specs.Numbers.{value, octets-of}
-use Rattle.octets.specs.Runs.{number}
 use Rattle.octets.proofs.Laws.{value-of-octets}
 use Rattle.frames.specs.Limits.{wrapper-overhead}
 use Rattle.frames.specs.Headers.{part, kind, stated-length, stated-kind}
-use Rattle.frames.specs.Reading.{Shape, reading, by-header, wrapper-shape, notice-shape, a-wrapper, a-notice}
+use Rattle.frames.specs.Reading.{reading, by-header, wrapper-shape, notice-shape, a-wrapper, a-notice}
 use Rattle.frames.specs.Sealing.{exchange-mac, exchange-data, zero-nonce}
-use Rattle.frames.specs.Telegrams.{is-good, telegram-kind, sign-in, sign-in-of}
-use Rattle.frames.specs.Writing.{nonce, wrapper-lead, notice-lead, notice, response, no-session, status, authenticate, authenticate-lead, response-lead}
+use Rattle.frames.specs.Telegrams.{is-good, sign-in-of}
+use Rattle.frames.specs.Writing.{nonce, wrapper-lead, notice-lead, notice, response, authenticate, authenticate-lead, response-lead}
 use Rattle.frames.specs.declared.telegrams.Telegram.the-variants.{Good}
 use Rattle.frames.specs.Laws as law
 

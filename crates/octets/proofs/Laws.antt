@@ -1,18 +1,17 @@
 -- The laws of the definitions. Assumes nothing.
 use mathlib.Core.Path.{_≡_, refl, sym, ap, _∙_}
-use mathlib.Core.List.{List, [], _∷_, _++_}
+use mathlib.Core.List.{List, [], _∷_}
 use Prim.Native.Nat.{ℕ, zero, suc, _+_, _-_, _*_, _/_, _%_, _^_, _<_, _≤_}
-use native.Mathlib.Nat.{pow-suc, pow-succ', add-mul-div-right, add-mul-mod-self-right, mul-assoc, mul-comm, add-comm}
+use native.Mathlib.Nat.{pow-suc, pow-succ', add-mul-div-right, add-mul-mod-self-right, mul-assoc, mul-comm}
 use native.Mathlib.Omega.{arith}
 use lib.Arith.{mod-mul}
 use lib.Pow.{pow-add}
-use native.Mathlib.Numerals.{add-one}
-use lib.Bits.{bitXor, xor-assoc, xor-self, xor-zero-r, xor-comm, xor-lt}
+use lib.Bits.{xor-assoc, xor-self, xor-zero-r, xor-comm, xor-lt}
 use lib.ListN.{length, getD, take, drop}
 use Rattle.std.proofs.shelf.Lists.{drop-more, take-all, take-at, drop-at, drop-drop, length-append, length-take, length-drop, length-take-le}
 use Rattle.std.proofs.shelf.Bits.{mul-add-lt, div-mul-add}
 use Rattle.octets.specs.Numbers.{value, octets-of}
-use Rattle.octets.specs.Runs.{run, over, over-at, xor}
+use Rattle.octets.specs.Runs.{run, over, over-at}
 use Rattle.octets.specs.Laws as law
 use Rattle.octets.specs.Laws.{Octets}
 
@@ -44,6 +43,20 @@ xor-keeps-octets (x ∷ xs) (y ∷ ys) p q = (xor-lt 8 x y (p .0) (q .0), xor-ke
 pub octets-are-octets : law.Octets-are-octets
 octets-are-octets zero v = tt
 octets-are-octets (suc n) v = (omega arith, octets-are-octets n v)
+
+-- an octet at a place; past the end there is 0
+pub octet-at : (xs : List ℕ) (i : ℕ) → Octets xs → getD xs i 0 < 256
+octet-at [] i o = omega arith
+octet-at (x ∷ xs) zero o = o .0
+octet-at (x ∷ xs) (suc i) o = octet-at xs i (o .1)
+
+octets-run : (n at : ℕ) (xs : List ℕ) → Octets xs → Octets (run n at xs)
+octets-run zero at xs o = tt
+octets-run (suc n) at xs o = (octet-at xs at o, octets-run n (at + 1) xs o)
+
+length-run : (n at : ℕ) (xs : List ℕ) → length (run n at xs) ≡ n
+length-run zero at xs = refl
+length-run (suc n) at xs = ap suc (length-run n (at + 1) xs)
 
 run-from : (n at : ℕ) (xs : List ℕ) → at + n ≤ length xs → run n at xs ≡ take n (drop at xs)
 run-from zero at xs h = refl
@@ -80,6 +93,9 @@ places-pos (suc n) = rw pow-suc (omega (arith, places-pos n))
 pub value-below : law.Value-below
 value-below [] o = omega arith
 value-below (x ∷ xs) o = rw (pow-suc 256 (length xs)) (mul-add-lt x (256 ^ length xs) (value xs) 256 (o .0) (value-below xs (o .1)))
+
+pub number-below : law.Number-below
+number-below n at xs o = rw length-run at (value-below (run n at xs) (octets-run n at xs o))
 
 pub value-of-octets : law.Value-of-octets
 value-of-octets zero v = omega arith

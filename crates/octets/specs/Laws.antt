@@ -2,9 +2,9 @@
 use mathlib.Core.Path.{_≡_}
 use mathlib.Core.List.{List, [], _∷_}
 use Prim.Native.Nat.{ℕ, _+_, _%_, _^_, _<_, _≤_}
-use lib.ListN.{length, getD, take, drop}
+use lib.ListN.{length, take, drop}
 use Rattle.octets.specs.Numbers.{value, octets-of}
-use Rattle.octets.specs.Runs.{run, number, over, over-at, xor}
+use Rattle.octets.specs.Runs.{run, number, over-at, xor}
 
 -- every number of the list is an octet
 abbrev pub Octets : List ℕ → Type 0
@@ -35,6 +35,10 @@ Run-is-part = (n at : ℕ) (xs : List ℕ) → at + n ≤ length xs → run n at
 -- the number in all octets of a list is its value
 abbrev pub Number-of-whole : Type 0
 Number-of-whole = (xs : List ℕ) → number (length xs) 0 xs ≡ value xs
+
+-- and n octets make a number of n octets
+abbrev pub Number-below : Type 0
+Number-below = (n at : ℕ) (xs : List ℕ) → Octets xs → number n at xs < 256 ^ n
 
 -- writing over a part keeps the length, is read back, and touches nothing else
 abbrev pub Over-keeps-length : Type 0

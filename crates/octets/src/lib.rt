@@ -10,6 +10,7 @@ ghost use Rattle.octets.specs.Laws.{
   Length-of-octets,
   Octets-are-octets,
   Run-is-part,
+  Number-below,
   Number-of-whole,
   Over-keeps-length,
   Over-is-read,
@@ -34,6 +35,7 @@ pub fn number_laws_hold()
 pub fn run_laws_hold()
     ensures run_is_part { λ _. ⌜ Run-is-part ⌝ }
     ensures number_of_whole { λ _. ⌜ Number-of-whole ⌝ }
+    ensures number_below { λ _. ⌜ Number-below ⌝ }
     ensures over_keeps_length { λ _. ⌜ Over-keeps-length ⌝ }
     ensures over_is_read { λ _. ⌜ Over-is-read ⌝ }
     ensures over_keeps_before { λ _. ⌜ Over-keeps-before ⌝ }

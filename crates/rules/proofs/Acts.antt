@@ -1,42 +1,38 @@
 -- A wrapper of a session that arrives, rule by rule. Assumes nothing.
-use mathlib.Core.Bool.{Bool, true, false, cond, not, _&&_, _||_}
-use mathlib.Core.List.{List, [], _∷_, _++_}
-use mathlib.Core.Logic.{_↔_, _⊎_, _≢_, inl, inr, ⊎-elim}
+use mathlib.Core.Bool.{true, false}
+use mathlib.Core.List.{List}
+use mathlib.Core.Logic.{inl, inr}
 use mathlib.Core.Path.{_≡_, refl, sym, ap, subst, _∙_}
-use Prim.Native.Nat.{ℕ, _+_, _≤_, _<_, _^_, min, max}
+use Prim.Native.Nat.{ℕ, _+_, _≤_, _<_, _^_}
 use native.Mathlib.Omega.{arith}
-use lib.Dec.{eqb, ltb}
+use lib.Dec.{eqb}
 use lib.ListN.{length, take}
-use Rattle.std.proofs.shelf.Tests.{both-ways, eq-eqb, eqb-true, ltb-true, ne-eqb}
 use Rattle.std.specs.declared.option.Option.{Option}
 use Rattle.std.specs.declared.option.Option.the-variants.{Some, None}
-use Rattle.std.specs.declared.result.Result.{Result}
-use Rattle.std.specs.declared.result.Result.the-variants.{Ok, Err}
+use Rattle.std.specs.declared.result.Result.the-variants.{Ok}
 use Rattle.octets.proofs.Laws.{value-below}
-use Rattle.octets.specs.Runs.{number, over}
-use Rattle.frames.specs.Reading.{Shape, a-notice, a-request, a-wrapper, reading}
-use Rattle.frames.specs.Sealing.{authenticate-mac, wrapper}
+use Rattle.octets.specs.Runs.{over}
+use Rattle.frames.specs.Reading.{a-wrapper, reading}
+use Rattle.frames.specs.Sealing.{authenticate-mac}
 use Rattle.frames.specs.Telegrams.{sign-in, telegram-kind}
 use Rattle.frames.specs.Writing.{authenticate, nonce, status}
 use Rattle.frames.specs.declared.telegrams.Telegram.{Telegram}
 use Rattle.frames.specs.declared.telegrams.Telegram.the-variants.{Authenticate, Status, Good, Other}
 use Rattle.sealer.specs.Comparing.{same-true}
 use Rattle.sealer.specs.Sealing.{same}
-use Rattle.rules.specs.declared.answers.Answer.{Answer}
-use Rattle.rules.specs.declared.answers.Answer.the-variants.{Nothing, Delivered, Frame, Sealed, Taken}
-use Rattle.rules.specs.declared.answers.Refusal.{Refusal}
+use Rattle.rules.specs.declared.answers.Answer.the-variants.{Delivered, Frame, Taken}
 use Rattle.rules.specs.declared.answers.Refusal.the-variants as no
 use Rattle.rules.specs.declared.settings.Settings.{Settings}
-use Rattle.rules.specs.Calls.{Buffers, Call, Step, arrive, quietly, refuse}
-use Rattle.rules.specs.Law.{Proper-settings, Signs-in, arriving, closing, count-of, ending, granting, has, held, kind-held, leaving, octets-out, taken, time-out}
-use Rattle.rules.specs.Limits.{last-time, may-deliver}
+use Rattle.rules.specs.Calls.{Buffers, Call, Step, arrive, quietly}
+use Rattle.rules.specs.Law.{Proper-settings, Signs-in, closing, count-of, granting, has, kind-held, leaving, octets-out, time-out}
+use Rattle.rules.specs.Limits.{may-deliver}
 use Rattle.rules.specs.Making.{hash-of, own-serial}
 use Rattle.rules.specs.Meaning.{Meaning}
 use Rattle.rules.specs.Model.{Model, Session, put}
 use Rattle.rules.specs.Rules.{act, deliver, end, on, opened-session, own-wrapper, sign, tell, wrapper-of}
-use Rattle.rules.specs.Runs.{Event, lent, noted}
+use Rattle.rules.specs.Runs.{lent, noted}
 use Rattle.rules.specs.Sessions.{above, by-hash, by-parts, lapsed, opened-by, signs-in}
-use Rattle.rules.proofs.Facts.{Reached, cond-case, none-some, ok-ok, some-some, take-over}
+use Rattle.rules.proofs.Facts.{cond-case, none-some, some-some, take-over}
 use Rattle.rules.proofs.Frames.{cipher, code, lead, signed-frame, status-back, wrapper-back}
 use Rattle.rules.proofs.Moves.{secrets}
 use Rattle.rules.proofs.Steps as step
@@ -150,7 +146,7 @@ module _ (set : Settings) (M : Meaning) (proper : Proper-settings set) where
         let zero-own : s .own ≡ 0 = good .fresh us in
         let p = signed-parts set M s (sign-in t) user si in
         let full : t ≡ authenticate user (authenticate-mac (M .mac) (p .3 .0) user (s .x) (s .y)) =
-        signed-frame t (p .0) kd (p .1) ∙ ap (λ v. authenticate v (p .0 .1)) (p .2) ∙ ap (authenticate user) (p .3 .2) in
+        signed-frame t (p .0 .0) (p .0 .1) kd (p .1) ∙ ap (λ v. authenticate v (p .0 .1)) (p .2) ∙ ap (authenticate user) (p .3 .2) in
         let else = out-else g c m s (status 0) good (omega arith) (omega arith) r refl refl in
         let kinds = out-kind g c m s (status 0) good (omega arith) (omega arith) r refl refl ∙ ap Some (status-back 0) in
         let seals = out-seals g c m s (status 0) good (omega arith) (omega arith) r refl refl in

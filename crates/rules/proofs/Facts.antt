@@ -1,20 +1,17 @@
 -- Small facts on options, tests and lists. Assumes nothing.
-use mathlib.Core.Bool.{Bool, true, false, cond, not, _&&_, _||_}
-use mathlib.Core.List.{List, [], _∷_, _++_}
-use mathlib.Core.Path.{_≡_, refl, sym, ap, _∙_}
-use Prim.Native.Nat.{ℕ, zero, suc, _+_, _≤_, _<_, _^_}
+use mathlib.Core.Bool.{Bool, true, false, cond}
+use mathlib.Core.List.{List, [], _∷_}
+use mathlib.Core.Path.{_≡_, refl}
+use Prim.Native.Nat.{ℕ, _≤_}
 use native.Mathlib.Omega.{arith}
-use lib.Dec.{eqb, ltb}
-use lib.ListN.{length, getD, take, drop}
+use lib.ListN.{length, take, drop}
 use Rattle.std.proofs.shelf.Lists.{take-at}
 use Rattle.std.specs.Vec.{Every}
 use Rattle.std.specs.declared.option.Option.{Option}
 use Rattle.std.specs.declared.option.Option.the-variants.{Some, None}
 use Rattle.std.specs.declared.result.Result.{Result}
 use Rattle.std.specs.declared.result.Result.the-variants.{Ok, Err}
-use Rattle.octets.proofs.Laws.{value-below}
-use Rattle.octets.specs.Laws.{Octets}
-use Rattle.octets.specs.Runs.{number, over, run}
+use Rattle.octets.specs.Runs.{over}
 
 pub none-some : {A : Type 0} (x : A) → None ≡ Some x → ⊥
 none-some {A} x p = let z : _≡_ {A = ℕ} 0 1 = cc in omega arith
@@ -39,23 +36,6 @@ cond-case P false x y f g = g refl
 -- what was written stands in front
 pub take-over : (w out : List ℕ) → take (length w) (over w out) ≡ w
 take-over w out = take-at w (drop (length w) out) (length w) refl
-
--- octets, and numbers made of them
-octet-at : (xs : List ℕ) (i : ℕ) → Octets xs → getD xs i 0 < 256
-octet-at [] i o = omega arith
-octet-at (x ∷ xs) zero o = o .0
-octet-at (x ∷ xs) (suc i) o = octet-at xs i (o .1)
-
-octets-run : (n at : ℕ) (xs : List ℕ) → Octets xs → Octets (run n at xs)
-octets-run zero at xs o = tt
-octets-run (suc n) at xs o = (octet-at xs at o, octets-run n (at + 1) xs o)
-
-length-run : (n at : ℕ) (xs : List ℕ) → length (run n at xs) ≡ n
-length-run zero at xs = refl
-length-run (suc n) at xs = ap suc (length-run n (at + 1) xs)
-
-pub number-below : (n at : ℕ) (xs : List ℕ) → Octets xs → number n at xs < 256 ^ n
-number-below n at xs o = rw length-run at (value-below (run n at xs) (octets-run n at xs o))
 
 -- the largest so far, in an option
 abbrev pub Reached : Option ℕ → ℕ → Type 0

@@ -1,40 +1,40 @@
 -- Frames of the group that arrive, rule by rule. Assumes nothing.
-use mathlib.Core.Bool.{Bool, true, false, cond}
-use mathlib.Core.List.{List, []}
+use mathlib.Core.Bool.{true}
+use mathlib.Core.List.{List}
 use mathlib.Core.Logic.{_↔_, _≢_}
 use mathlib.Core.Path.{_≡_, refl, sym, ap, subst, _∙_}
-use Prim.Native.Nat.{ℕ, _+_, _≤_, _<_, _^_, min, max}
+use Prim.Native.Nat.{ℕ, _+_, _<_, _^_, max}
 use native.Mathlib.Omega.{arith}
 use lib.Dec.{eqb, ltb}
 use lib.ListN.{length, take}
-use Rattle.std.proofs.shelf.Tests.{both-ways, eqb-true, lt-ltb, ltb-false, ltb-true, ne-eqb}
+use Rattle.std.proofs.shelf.Tests.{lt-ltb, ltb-false, ltb-true, ne-eqb}
 use Rattle.std.specs.declared.option.Option.{Option}
 use Rattle.std.specs.declared.option.Option.the-variants.{Some, None}
 use Rattle.std.specs.declared.result.Result.{Result}
-use Rattle.std.specs.declared.result.Result.the-variants.{Ok, Err}
+use Rattle.std.specs.declared.result.Result.the-variants.{Ok}
+use Rattle.octets.proofs.Laws.{number-below}
 use Rattle.octets.specs.Laws.{Octets}
-use Rattle.octets.specs.Runs.{number, over}
-use Rattle.frames.specs.Reading.{Shape, a-notice, a-request, a-wrapper, reading}
+use Rattle.octets.specs.Runs.{over}
+use Rattle.frames.specs.Reading.{a-notice, a-wrapper, reading}
 use Rattle.frames.specs.Telegrams.{is-good}
 use Rattle.rules.specs.declared.answers.Answer.{Answer}
-use Rattle.rules.specs.declared.answers.Answer.the-variants.{Nothing, Delivered, Frame, Sealed, Taken}
+use Rattle.rules.specs.declared.answers.Answer.the-variants.{Delivered, Taken}
 use Rattle.rules.specs.declared.answers.Refusal.{Refusal}
 use Rattle.rules.specs.declared.answers.Refusal.the-variants as no
 use Rattle.rules.specs.declared.settings.Settings.{Settings}
-use Rattle.rules.specs.Calls.{Buffers, Call, Step, arrive, quietly, refuse}
+use Rattle.rules.specs.Calls.{Buffers, Call, Step, arrive, quietly}
 use Rattle.rules.specs.GroupTime.{follow, heard, want-reply, wanting, within}
 use Rattle.rules.specs.Law.{Genuine, Wrapped, accepted, arriving, came-in, delivered, given, group-time, is-response, leaving, of-session, opens, opens-by, opens-with, readable, time-in, time-out}
-use Rattle.rules.specs.Limits.{last-time}
 use Rattle.rules.specs.Making.{latency, own-serial, sync}
 use Rattle.rules.specs.Meaning.{Meaning}
-use Rattle.rules.specs.Model.{Model, Session}
+use Rattle.rules.specs.Model.{Model}
 use Rattle.rules.specs.Rules.{deliver, group-good, group-opened, group-wrapper, noticed}
-use Rattle.rules.specs.Runs.{Event, noted}
+use Rattle.rules.specs.Runs.{noted}
 use Rattle.rules.proofs.Counting.{counted-same}
-use Rattle.rules.proofs.Facts.{Reached, cond-case, none-some, number-below, ok-ok, some-some, take-over}
+use Rattle.rules.proofs.Facts.{cond-case, none-some, ok-ok, some-some, take-over}
 use Rattle.rules.proofs.Frames.{notice-read, wrapper-read}
 use Rattle.rules.proofs.Moves.{Still, aside}
-use Rattle.rules.proofs.Steps.{Clocks, Fine, Fit, opens-none, refused}
+use Rattle.rules.proofs.Steps.{Fine, Fit, opens-none, refused}
 
 -- the gateway after a frame of the group: the timer is the larger of the two times
 record Heard (g : Model) (time : ℕ) (h : Model) : Type 0 where

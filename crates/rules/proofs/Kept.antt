@@ -1,12 +1,12 @@
 -- Every run keeps the law. Assumes nothing.
-use mathlib.Core.Bool.{Bool, true, false, cond, _&&_}
+use mathlib.Core.Bool.{true, false, _&&_}
 use mathlib.Core.List.{List, [], _∷_, map}
-use mathlib.Core.Logic.{_⊎_, _≢_, inl, inr, ⊎-elim}
+use mathlib.Core.Logic.{_⊎_, _≢_, ⊎-elim}
 use mathlib.Core.Path.{_≡_, refl, sym, ap, subst, _∙_}
-use Prim.Native.Nat.{ℕ, zero, suc, _+_, _≤_, _<_, min, max, zero-le}
+use Prim.Native.Nat.{ℕ, zero, suc, _+_, min, zero-le}
 use native.Mathlib.Omega.{arith}
 use lib.Dec.{eqb, leb, ltb}
-use Rattle.std.proofs.shelf.Tests.{and-parts, eqb-true, eqb-false, ltb-true}
+use Rattle.std.proofs.shelf.Tests.{and-parts, eqb-true, ltb-true}
 use Rattle.std.specs.Vec.{Every}
 use Rattle.std.specs.declared.option.Option.{Option}
 use Rattle.std.specs.declared.option.Option.the-variants.{Some, None}
@@ -15,19 +15,17 @@ use Rattle.std.specs.declared.result.Result.the-variants.{Ok, Err}
 use Rattle.octets.specs.Laws.{Octets}
 use Rattle.frames.specs.Reading.{Shape, a-notice, a-request, a-wrapper, reading}
 use Rattle.frames.specs.declared.reading.Unreadable.{Unreadable}
-use Rattle.rules.specs.declared.answers.Answer.the-variants.{Delivered}
-use Rattle.rules.specs.declared.answers.Refusal.{Refusal}
 use Rattle.rules.specs.declared.answers.Refusal.the-variants as no
 use Rattle.rules.specs.declared.settings.Settings.{Settings}
 use Rattle.rules.specs.Calls.{Buffers, Call, Step, announce, arrive, due, hang-up, pass, refuse, send}
 use Rattle.rules.specs.Law as law
-use Rattle.rules.specs.Law.{Law, Proper-call, Proper-calls, Proper-settings, Runs-keep-the-law, Throughout, arriving, clock, count-of, larger, latest, leaving, life, milliseconds, time-in, time-out}
+use Rattle.rules.specs.Law.{Law, Proper-call, Proper-calls, Proper-settings, Runs-keep-the-law, Throughout, clock, count-of, larger, latest, life, milliseconds, time-in, time-out}
 use Rattle.rules.specs.Limits.{last-time, numbers, session-numbers}
 use Rattle.rules.specs.Making.{acceptable, latency, sync}
 use Rattle.rules.specs.Meaning.{Meaning}
 use Rattle.rules.specs.Model.{Model, new}
 use Rattle.rules.specs.Rules.{arrived, next, roomy, unread, with-room}
-use Rattle.rules.specs.Runs.{Event, event, history, noted, state}
+use Rattle.rules.specs.Runs.{Event, event, history, state}
 use Rattle.rules.specs.Sessions.{first-lapsed}
 use Rattle.rules.proofs.Acts.{wrapper-fine}
 use Rattle.rules.proofs.Counting.{Counted, count}
@@ -35,7 +33,7 @@ use Rattle.rules.proofs.Facts.{Reached, cond-case, every-map, none-some}
 use Rattle.rules.proofs.Groups.{group-wrapper-fine, notice-fine}
 use Rattle.rules.proofs.Moves.{Lives, Still, Tied, spoken, tied-kept}
 use Rattle.rules.proofs.Others.{announce-fine, due-fine, hang-up-fine, pass-fine, request-fine, send-fine}
-use Rattle.rules.proofs.Steps.{Clocks, Fine, Fit, refused}
+use Rattle.rules.proofs.Steps.{Fine, Fit, refused}
 
 module _ (set : Settings) (M : Meaning) (proper : Proper-settings set) where
   -- EVERY CALL

@@ -1,28 +1,25 @@
 -- How one call moves one session, and what the law sees of it. Assumes nothing.
-use mathlib.Core.Bool.{Bool, true, false, cond, not, _&&_, _||_}
-use mathlib.Core.List.{List, [], _∷_, _++_}
+use mathlib.Core.Bool.{Bool, true, false, cond, _&&_}
+use mathlib.Core.List.{List}
 use mathlib.Core.Logic.{_⊎_, _≢_, inl, inr, ⊎-elim}
 use mathlib.Core.Path.{_≡_, refl, sym, ap, subst, _∙_}
-use Prim.Native.Nat.{ℕ, _+_, _≤_, _<_, _^_}
+use Prim.Native.Nat.{ℕ, _≤_, _<_}
 use native.Mathlib.Omega.{arith}
-use lib.Dec.{eqb, ltb}
-use Rattle.std.proofs.shelf.Tests.{both-ways, eq-eqb, eqb-true, ltb-true, ne-eqb}
+use lib.Dec.{eqb}
+use Rattle.std.proofs.shelf.Tests.{eqb-true, ltb-true}
 use Rattle.std.specs.Vec.{Every}
 use Rattle.std.specs.declared.option.Option.{Option}
 use Rattle.std.specs.declared.option.Option.the-variants.{Some, None}
-use Rattle.std.specs.declared.result.Result.{Result}
-use Rattle.std.specs.declared.result.Result.the-variants.{Ok, Err}
-use Rattle.rules.specs.declared.answers.Answer.{Answer}
-use Rattle.rules.specs.declared.answers.Answer.the-variants.{Nothing, Delivered, Frame, Sealed, Taken}
-use Rattle.rules.specs.declared.answers.Refusal.{Refusal}
+use Rattle.std.specs.declared.result.Result.the-variants.{Ok}
+use Rattle.rules.specs.declared.answers.Answer.the-variants.{Delivered}
 use Rattle.rules.specs.declared.settings.Settings.{Settings}
-use Rattle.rules.specs.Calls.{Call, Step, refuse}
-use Rattle.rules.specs.Law.{Genuine, In-life, Law, Life, Once, Secrets, Signs-in, Throughout, arriving, begins, count-of, ends, given, has, leaving, life, lives-on, opens}
+use Rattle.rules.specs.Calls.{Call, Step}
+use Rattle.rules.specs.Law.{Genuine, Life, Once, Secrets, Signs-in, arriving, begins, count-of, ends, leaving, lives-on, opens}
 use Rattle.rules.specs.Meaning.{Meaning}
 use Rattle.rules.specs.Model.{Model, Session, put}
 use Rattle.rules.specs.Runs.{Event, noted}
 use Rattle.rules.specs.Sessions.{above, begun}
-use Rattle.rules.proofs.Facts.{Reached, cond-case, every-map, none-some}
+use Rattle.rules.proofs.Facts.{Reached, every-map, none-some}
 
 pub above-reached : (o : Option ℕ) (k : ℕ) → above o k ≡ true → (j : ℕ) → Reached o j → j < k
 above-reached None k e j r = absurd r

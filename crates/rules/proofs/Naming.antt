@@ -1,12 +1,11 @@
 -- A call, but for pass and due, changes the session that it names and no other. Assumes nothing.
-use mathlib.Core.Bool.{Bool, true, false, cond, not, _&&_}
+use mathlib.Core.Bool.{false}
 use mathlib.Core.List.{List, []}
 use mathlib.Core.Logic.{_≢_}
-use mathlib.Core.Path.{_≡_, refl, sym, ap, _∙_}
+use mathlib.Core.Path.{_≡_, refl, sym, ap}
 use Prim.Native.Nat.{ℕ}
-use native.Mathlib.Omega.{arith}
-use lib.Dec.{eqb, leb, ltb}
-use Rattle.std.proofs.shelf.Tests.{both-ways, eqb-true, ne-eqb}
+use lib.Dec.{eqb, ltb}
+use Rattle.std.proofs.shelf.Tests.{both-ways, ne-eqb}
 use Rattle.std.specs.declared.option.Option.{Option}
 use Rattle.std.specs.declared.option.Option.the-variants.{Some, None}
 use Rattle.std.specs.declared.result.Result.{Result}
@@ -18,15 +17,15 @@ use Rattle.frames.specs.declared.reading.Unreadable.{Unreadable}
 use Rattle.frames.specs.declared.telegrams.Telegram.{Telegram}
 use Rattle.frames.specs.declared.telegrams.Telegram.the-variants.{Authenticate, Status, Good, Other}
 use Rattle.rules.specs.declared.settings.Settings.{Settings}
-use Rattle.rules.specs.Calls.{Buffers, Call, Step, announce, arrive, due, hang-up, pass, refuse, send}
-use Rattle.rules.specs.GroupTime.{follow, heard, next-time, want-reply, within}
+use Rattle.rules.specs.Calls.{Buffers, Step, announce, arrive, due, hang-up, pass, send}
+use Rattle.rules.specs.GroupTime.{heard, next-time, within}
 use Rattle.rules.specs.Limits.{last-time, may-deliver, numbers, slots}
 use Rattle.rules.specs.Making.{latency, own-serial, sync}
 use Rattle.rules.specs.Meaning.{Meaning}
 use Rattle.rules.specs.Model.{Model, Session, put}
-use Rattle.rules.specs.Rules.{act, announce-at, announced, arrived, good-offer, group-good, group-opened, group-wrapper, hung-up, next, noticed, opened-session, requested, roomy, send-in, send-signed, sign, with-room, wrapper-of}
+use Rattle.rules.specs.Rules.{act, announced, arrived, good-offer, group-wrapper, hung-up, noticed, opened-session, roomy, send-in, send-signed, sign, with-room, wrapper-of}
 use Rattle.rules.specs.Sessions.{above, lapsed, signs-in}
-use Rattle.rules.specs.Theorems.{Changes-one-session, named, named-in, one-session}
+use Rattle.rules.specs.Theorems.{Changes-one-session, named-in}
 use Rattle.rules.proofs.Facts.{cond-case}
 
 module _ (set : Settings) (M : Meaning) (g : Model) (n : ℕ) where

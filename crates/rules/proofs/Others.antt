@@ -1,9 +1,9 @@
 -- Session request, pass, due, send, announce and hang up, rule by rule. Assumes nothing.
-use mathlib.Core.Bool.{Bool, true, false, cond, not, _&&_, _||_}
-use mathlib.Core.List.{List, []}
+use mathlib.Core.Bool.{Bool, true, false, not, _&&_, _||_}
+use mathlib.Core.List.{List}
 use mathlib.Core.Logic.{_≢_, inl}
 use mathlib.Core.Path.{_≡_, refl, sym, ap, subst, _∙_}
-use Prim.Native.Nat.{ℕ, _+_, _-_, _*_, _%_, _≤_, _<_, _^_, min, max}
+use Prim.Native.Nat.{ℕ, _-_, _≤_, _<_, _^_}
 use native.Mathlib.Omega.{arith}
 use lib.Dec.{eqb, leb, ltb}
 use lib.ListN.{length, take, drop}
@@ -13,37 +13,37 @@ use Rattle.std.specs.Options.{isSome}
 use Rattle.std.specs.declared.option.Option.{Option}
 use Rattle.std.specs.declared.option.Option.the-variants.{Some, None}
 use Rattle.std.specs.declared.result.Result.{Result}
-use Rattle.std.specs.declared.result.Result.the-variants.{Ok, Err}
+use Rattle.std.specs.declared.result.Result.the-variants.{Ok}
+use Rattle.octets.proofs.Laws.{number-below}
 use Rattle.octets.specs.Laws.{Octets}
 use Rattle.octets.specs.Runs.{number, over}
 use Rattle.frames.proofs.ReadBack.{good-is-apart}
-use Rattle.frames.specs.Headers.{headed, part}
-use Rattle.frames.specs.Reading.{Shape, a-notice, a-request, a-wrapper, reading}
+use Rattle.frames.specs.Headers.{headed}
+use Rattle.frames.specs.Reading.{Shape, a-request, reading}
 use Rattle.frames.specs.Sealing.{sealed-notice, wrapper}
 use Rattle.frames.specs.Telegrams.{is-good, telegram-kind}
-use Rattle.frames.specs.Writing.{no-session, nonce, notice-lead, status}
+use Rattle.frames.specs.Writing.{no-session, status}
 use Rattle.frames.specs.declared.telegrams.Telegram.{Telegram}
-use Rattle.frames.specs.declared.telegrams.Telegram.the-variants.{Authenticate, Status, Good, Other}
 use Rattle.rules.specs.declared.answers.Answer.{Answer}
 use Rattle.rules.specs.declared.answers.Answer.the-variants.{Nothing, Delivered, Frame, Sealed, Taken}
 use Rattle.rules.specs.declared.answers.Refusal.{Refusal}
 use Rattle.rules.specs.declared.answers.Refusal.the-variants as no
 use Rattle.rules.specs.declared.settings.Settings.{Settings}
-use Rattle.rules.specs.Calls.{Buffers, Call, Step, announce, arrive, due, hang-up, pass, quietly, refuse, send}
-use Rattle.rules.specs.GroupTime.{next-time, notice-serial, notice-tag, notified-at, sent-at, tag-of}
-use Rattle.rules.specs.Law.{Proper-settings, Wrapped, arriving, came-in, count-of, ending, ends, given, group-time, has, is-response, kind-held, leaving, milliseconds, octets-in, octets-out, of-session, opens, opens-by, opens-with, readable, time-in, time-out, went-out}
-use Rattle.rules.specs.Limits.{idle-time, last-time, numbers, session-numbers, slots}
+use Rattle.rules.specs.Calls.{Buffers, Call, Step, announce, arrive, due, hang-up, pass, quietly, send}
+use Rattle.rules.specs.GroupTime.{next-time, notice-serial, notice-tag, sent-at, tag-of}
+use Rattle.rules.specs.Law.{Proper-settings, arriving, came-in, count-of, ending, ends, given, group-time, is-response, milliseconds, octets-out, of-session, opens, opens-by, opens-with, readable, time-out, went-out}
+use Rattle.rules.specs.Limits.{last-time, numbers, session-numbers, slots}
 use Rattle.rules.specs.Making.{own-serial}
 use Rattle.rules.specs.Meaning.{Meaning}
 use Rattle.rules.specs.Model.{Model, Session, put}
-use Rattle.rules.specs.Rules.{announce-at, announced, due-notice, due-now, end, end-lapsed, good-offer, hung-up, no-slot, notify, offer-key, offer-session, offer-y, open-session, own-wrapper, passed, requested, response-to, send-in, send-signed, tell}
-use Rattle.rules.specs.Runs.{Event, lent, noted}
-use Rattle.rules.specs.Sessions.{all-waited, begun, first-lapsed, lapsed, sent-one, waited}
-use Rattle.rules.proofs.Acts.{out-else, out-here, out-kind, out-seals, out-time, serial-below}
+use Rattle.rules.specs.Rules.{announce-at, announced, due-notice, due-now, end, end-lapsed, good-offer, hung-up, no-slot, notify, offer-key, offer-y, open-session, own-wrapper, passed, requested, response-to, send-in, send-signed}
+use Rattle.rules.specs.Runs.{lent, noted}
+use Rattle.rules.specs.Sessions.{all-waited, begun, lapsed, sent-one, waited}
+use Rattle.rules.proofs.Acts.{out-else, out-kind, out-seals, out-time, serial-below}
 use Rattle.rules.proofs.Counting.{Counted, count, count-same, counted-put, counted-same}
-use Rattle.rules.proofs.Facts.{Reached, cond-case, none-some, number-below, some-some, take-over}
+use Rattle.rules.proofs.Facts.{Reached, cond-case, none-some, some-some, take-over}
 use Rattle.rules.proofs.Frames.{notice-back, response-long, response-unread, status-back, wrapper-back}
-use Rattle.rules.proofs.Moves.{Goes, Moved, Moves, Says, Still, about, absent, aside, goes, quiet, secrets, starts, stops}
+use Rattle.rules.proofs.Moves.{Moves, Says, Still, about, absent, aside, goes, secrets, starts, stops}
 use Rattle.rules.proofs.Steps.{Clocks, Fine, Fit, Good-session, fit-put, idle, opens-none, refused}
 
 no-frame : (size n k user sz : ℕ) → _≡_ {A = Result Answer Refusal} (Ok (Frame size)) (Ok (Delivered n k user sz)) → ⊥

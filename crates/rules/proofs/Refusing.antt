@@ -1,17 +1,14 @@
 -- A call that is refused changes nothing and writes nothing. Assumes nothing.
-use mathlib.Core.Bool.{Bool, true, false, cond, not, _&&_}
+use mathlib.Core.Bool.{_&&_}
 use mathlib.Core.List.{List, []}
-use mathlib.Core.Logic.{_≢_}
-use mathlib.Core.Path.{_≡_, refl, sym, ap, _∙_}
+use mathlib.Core.Path.{_≡_, refl, sym, _∙_}
 use Prim.Native.Nat.{ℕ}
 use native.Mathlib.Omega.{arith}
-use lib.Dec.{eqb, leb, ltb}
-use Rattle.std.proofs.shelf.Tests.{both-ways, eqb-true, ne-eqb}
+use lib.Dec.{eqb, ltb}
 use Rattle.std.specs.declared.option.Option.{Option}
 use Rattle.std.specs.declared.option.Option.the-variants.{Some, None}
 use Rattle.std.specs.declared.result.Result.{Result}
 use Rattle.std.specs.declared.result.Result.the-variants.{Ok, Err}
-use Rattle.octets.specs.Runs.{number}
 use Rattle.frames.specs.Reading.{Shape, a-notice, a-request, a-wrapper, reading}
 use Rattle.frames.specs.Telegrams.{is-good, telegram-kind}
 use Rattle.frames.specs.declared.reading.Unreadable.{Unreadable}
@@ -21,13 +18,13 @@ use Rattle.rules.specs.declared.answers.Answer.{Answer}
 use Rattle.rules.specs.declared.answers.Refusal.{Refusal}
 use Rattle.rules.specs.declared.answers.Refusal.the-variants as no
 use Rattle.rules.specs.declared.settings.Settings.{Settings}
-use Rattle.rules.specs.Calls.{Buffers, Call, Step, announce, arrive, due, hang-up, pass, quietly, refuse, send}
-use Rattle.rules.specs.GroupTime.{follow, heard, next-time, want-reply, within}
+use Rattle.rules.specs.Calls.{Buffers, Step, announce, arrive, due, hang-up, pass, refuse, send}
+use Rattle.rules.specs.GroupTime.{next-time, within}
 use Rattle.rules.specs.Limits.{last-time, may-deliver, numbers, slots}
-use Rattle.rules.specs.Making.{latency, own-serial, sync}
+use Rattle.rules.specs.Making.{latency, own-serial}
 use Rattle.rules.specs.Meaning.{Meaning}
-use Rattle.rules.specs.Model.{Model, Session, put}
-use Rattle.rules.specs.Rules.{act, announce-at, announced, arrived, due-notice, due-now, end-lapsed, good-offer, group-good, group-opened, group-wrapper, hung-up, next, noticed, opened-session, requested, roomy, send-in, send-signed, sign, unread, with-room, wrapper-of}
+use Rattle.rules.specs.Model.{Model, Session}
+use Rattle.rules.specs.Rules.{act, announced, arrived, due-now, end-lapsed, good-offer, group-wrapper, hung-up, noticed, opened-session, roomy, send-in, send-signed, sign, unread, with-room, wrapper-of}
 use Rattle.rules.specs.Sessions.{above, first-lapsed, lapsed, signs-in}
 use Rattle.rules.specs.Theorems.{Refusals-change-nothing}
 use Rattle.rules.proofs.Facts.{cond-case}

@@ -2,32 +2,30 @@
 use mathlib.Core.Bool.{Bool, true, false, cond, _&&_}
 use mathlib.Core.List.{List, [], _∷_}
 use mathlib.Core.Path.{_≡_, refl, sym, ap, subst, _∙_}
-use Prim.Native.Nat.{ℕ, zero, suc, _+_, _-_, _*_, _%_, _≤_, _<_, _^_, zero-le}
+use Prim.Native.Nat.{ℕ, suc, _+_, _-_, _*_, _%_, _≤_, _<_, zero-le}
 use native.Mathlib.Omega.{arith}
-use lib.Dec.{eqb, leb, ltb}
+use lib.Dec.{eqb, ltb}
 use lib.ListN.{length}
 use Rattle.std.proofs.shelf.Tests.{and-left, both-ways, cond-true, ne-eqb}
 use Rattle.std.specs.Options.{isSome}
 use Rattle.std.specs.declared.option.Option.{Option}
 use Rattle.std.specs.declared.option.Option.the-variants.{Some, None}
-use Rattle.std.specs.declared.result.Result.{Result}
-use Rattle.std.specs.declared.result.Result.the-variants.{Ok, Err}
+use Rattle.std.specs.declared.result.Result.the-variants.{Ok}
 use Rattle.rules.specs.declared.answers.Answer.the-variants.{Nothing}
 use Rattle.rules.specs.declared.settings.Settings.{Settings}
-use Rattle.rules.specs.Calls.{Buffers, Call, Step, due, quietly}
+use Rattle.rules.specs.Calls.{Buffers, Step, due, quietly}
 use Rattle.rules.specs.GroupTime.{next-time}
-use Rattle.rules.specs.Law.{Proper-calls, Proper-settings}
 use Rattle.rules.specs.Limits.{numbers, session-numbers}
-use Rattle.rules.specs.Making.{acceptable, sync}
+use Rattle.rules.specs.Making.{sync}
 use Rattle.rules.specs.Meaning.{Meaning}
-use Rattle.rules.specs.Model.{Model, Session, put}
-use Rattle.rules.specs.Rules.{due-notice, due-now, end, end-lapsed, next, notify, roomy}
-use Rattle.rules.specs.Runs.{history, state}
+use Rattle.rules.specs.Model.{Model, Session}
+use Rattle.rules.specs.Rules.{due-notice, due-now, end-lapsed, next, notify, roomy}
+use Rattle.rules.specs.Runs.{state}
 use Rattle.rules.specs.Sessions.{first, first-lapsed, is-lapsed}
 use Rattle.rules.specs.Theorems.{All-roomy, Nothing-due-after-nine, after}
-use Rattle.rules.proofs.Counting.{Counted, bit, changed, count, count-changed, count-le, count-same, first-none, first-some}
-use Rattle.rules.proofs.Facts.{cond-case, none-some, some-some}
-use Rattle.rules.proofs.Kept.{Inv, inv-all}
+use Rattle.rules.proofs.Counting.{bit, changed, count, count-changed, count-le, count-same, first-none, first-some}
+use Rattle.rules.proofs.Facts.{cond-case}
+use Rattle.rules.proofs.Kept.{inv-all}
 
 lapsed-there : (o : Option Session) → is-lapsed o ≡ true → isSome o ≡ true
 lapsed-there None e = e

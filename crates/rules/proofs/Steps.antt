@@ -1,42 +1,37 @@
 -- What every step of the rules keeps: sessions move as the law has it, the gateway stays fit, and the timer is accounted for.
 -- Assumes nothing.
-use mathlib.Core.Bool.{Bool, true, false, cond, not, _&&_, _||_}
-use mathlib.Core.List.{List, [], _∷_, _++_}
-use mathlib.Core.Logic.{_↔_, _⊎_, _≢_, inl, inr, ⊎-elim}
+use mathlib.Core.Bool.{Bool, true, false, cond, _&&_, _||_}
+use mathlib.Core.List.{List}
+use mathlib.Core.Logic.{_⊎_, _≢_}
 use mathlib.Core.Path.{_≡_, refl, sym, ap, subst, _∙_}
-use Prim.Native.Nat.{ℕ, _+_, _≤_, _<_, _^_, min, max}
+use Prim.Native.Nat.{ℕ, _+_, _≤_, _<_, _^_, min}
 use native.Mathlib.Omega.{arith}
-use lib.Dec.{eqb, ltb}
+use lib.Dec.{eqb}
 use lib.ListN.{length, take}
-use Rattle.std.proofs.shelf.Tests.{both-ways, eq-eqb, eqb-true, ltb-true, ne-eqb}
+use Rattle.std.proofs.shelf.Tests.{both-ways, eq-eqb, eqb-true, ne-eqb}
 use Rattle.std.specs.declared.option.Option.{Option}
 use Rattle.std.specs.declared.option.Option.the-variants.{Some, None}
 use Rattle.std.specs.declared.result.Result.{Result}
 use Rattle.std.specs.declared.result.Result.the-variants.{Ok, Err}
-use Rattle.octets.specs.Runs.{number, over}
-use Rattle.frames.specs.Headers.{part}
-use Rattle.frames.specs.Reading.{Shape, a-notice, a-request, a-wrapper, reading}
-use Rattle.frames.specs.Sealing.{wrapped, wrapper}
+use Rattle.octets.specs.Runs.{over}
+use Rattle.frames.specs.Reading.{a-wrapper, reading}
 use Rattle.frames.specs.Telegrams.{telegram-kind}
-use Rattle.frames.specs.Writing.{status}
-use Rattle.frames.specs.declared.reading.Unreadable.{Unreadable}
 use Rattle.frames.specs.declared.telegrams.Telegram.{Telegram}
-use Rattle.frames.specs.declared.telegrams.Telegram.the-variants.{Authenticate, Status, Good, Other}
 use Rattle.rules.specs.declared.answers.Answer.{Answer}
-use Rattle.rules.specs.declared.answers.Answer.the-variants.{Nothing, Delivered, Frame, Sealed, Taken}
+use Rattle.rules.specs.declared.answers.Answer.the-variants.{Delivered}
 use Rattle.rules.specs.declared.answers.Refusal.{Refusal}
 use Rattle.rules.specs.declared.settings.Settings.{Settings}
 use Rattle.rules.specs.Calls.{Buffers, Call, Step, arrive, refuse}
-use Rattle.rules.specs.Law.{Genuine, Genuine-in-group, Secrets, Signs-in, Window, Wrapped, accepted, arriving, came-in, closing, count-of, ending, ends, given, group-time, has, held, is-response, kind-held, larger, leaving, milliseconds, octets-in, octets-out, of-session, opens, opens-by, opens-with, readable, taken, time-in, time-out, went-out}
+use Rattle.rules.specs.Law.{Genuine, Genuine-in-group, Secrets, Signs-in, Window, Wrapped, accepted, arriving, came-in, closing, count-of, ending, ends, given, group-time, has, held, is-response, kind-held, larger, leaving, milliseconds, octets-out, of-session, opens, opens-by, opens-with, readable, taken, time-in, time-out, went-out}
 use Rattle.rules.specs.Limits.{last-time}
 use Rattle.rules.specs.Meaning.{Meaning}
 use Rattle.rules.specs.Model.{Model, Session, put}
 use Rattle.rules.specs.Runs.{Event, lent, noted}
 use Rattle.rules.specs.Sessions.{above, opened-by}
 use Rattle.rules.proofs.Counting.{Counted, counted-put}
-use Rattle.rules.proofs.Facts.{Reached, cond-case, none-some, ok-ok, some-some, take-over}
-use Rattle.rules.proofs.Frames.{Wrapper-read, wrapper-read}
-use Rattle.rules.proofs.Moves.{Goes, Moved, Moves, Says, Still, about, above-reached, aside, goes, quiet, secrets, stops}
+use Rattle.rules.proofs.Facts.{Reached, none-some, ok-ok, some-some, take-over}
+use Rattle.rules.proofs.Frames.{wrapper-read}
+use Rattle.rules.proofs.Moves.{Moved, Moves, Says, Still, about, above-reached, aside, goes, secrets, stops}
 
 -- a session whose wrappers can be written and read
 pub record Good-session (n : ℕ) (s : Session) : Type 0 where

@@ -1,6 +1,5 @@
 -- Group time: what a frame of the group does to the gateway, and what is sent to the group. Assumes nothing.
 use mathlib.Core.Bool.{Bool, true, false, cond}
-use mathlib.Core.List.{List}
 use Prim.Native.Nat.{ℕ, _+_, _*_, _%_, _^_, min, max}
 use lib.Dec.{ltb}
 use Rattle.std.specs.declared.option.Option.{Option}

@@ -4,7 +4,7 @@ use mathlib.Core.Bool.{Bool, true, false, cond, not, _&&_, _||_}
 use mathlib.Core.List.{List, [], _∷_, map}
 use mathlib.Core.Logic.{_↔_, _⊎_, _≢_}
 use mathlib.Core.Path.{_≡_}
-use Prim.Native.Nat.{ℕ, _+_, _^_, _<_, min, max}
+use Prim.Native.Nat.{ℕ, _+_, _<_, min, max}
 use lib.Dec.{eqb}
 use lib.ListN.{length, take}
 use Rattle.std.specs.Vec.{Every}

@@ -1,5 +1,5 @@
 -- Settings, with their defaults filled in, and what makes a gateway. Assumes nothing.
-use mathlib.Core.Bool.{Bool, true, false, cond, _&&_}
+use mathlib.Core.Bool.{Bool, false, cond, _&&_}
 use mathlib.Core.List.{List, []}
 use Prim.Native.Nat.{ℕ, _-_, _/_, max}
 use lib.Dec.{eqb, leb, ltb}
@@ -8,7 +8,6 @@ use Rattle.std.specs.declared.option.Option.{Option}
 use Rattle.std.specs.declared.option.Option.the-variants.{Some, None}
 use Rattle.octets.specs.Numbers.{value}
 use Rattle.rules.specs.declared.settings.Settings.{Settings}
-use Rattle.rules.specs.declared.settings.User.{User}
 use Rattle.rules.specs.Limits.{default-latency, largest-latency, numbers}
 
 -- the latency tolerance L; 0 stands for the default

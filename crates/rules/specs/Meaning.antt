@@ -1,8 +1,4 @@
 -- What the rules know of a sealer: its meaning and its laws. Assumes nothing.
-use mathlib.Core.List.{List}
-use mathlib.Core.Path.{_≡_}
-use Prim.Native.Nat.{ℕ}
-use lib.ListN.{length}
 use Rattle.sealer.specs.Sealing.{Apart, Complete, Long, Openings, Sealed, Sound, Wide}
 
 pub record Meaning : Type 0 where

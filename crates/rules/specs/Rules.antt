@@ -1,17 +1,17 @@
 -- The rule of each call: the questions in their order, then the effect. Assumes nothing.
-use mathlib.Core.Bool.{Bool, true, false, cond, not, _&&_}
+use mathlib.Core.Bool.{Bool, cond, not, _&&_}
 use mathlib.Core.List.{List, []}
 use Prim.Native.Nat.{ℕ, _+_, _-_, min}
 use lib.Dec.{eqb, leb, ltb}
-use lib.ListN.{length, replicate}
+use lib.ListN.{length}
 use Rattle.std.specs.Options.{isSome}
 use Rattle.std.specs.declared.option.Option.{Option}
 use Rattle.std.specs.declared.option.Option.the-variants.{Some, None}
 use Rattle.std.specs.declared.result.Result.{Result}
 use Rattle.std.specs.declared.result.Result.the-variants.{Ok, Err}
-use Rattle.octets.specs.Runs.{number, over}
+use Rattle.octets.specs.Runs.{number}
 use Rattle.frames.specs.Headers.{part}
-use Rattle.frames.specs.Limits.{largest-frame, wrapper-overhead}
+use Rattle.frames.specs.Limits.{largest-frame}
 use Rattle.frames.specs.Reading.{Shape, a-wrapper, a-request, a-notice, reading}
 use Rattle.frames.specs.Sealing.{sealed-notice, sealed-response, wrapper}
 use Rattle.frames.specs.Telegrams.{is-good, telegram-kind}
@@ -20,13 +20,12 @@ use Rattle.frames.specs.declared.reading.Unreadable.{Unreadable}
 use Rattle.frames.specs.declared.reading.Unreadable.the-variants.{Header, Kind, Length}
 use Rattle.frames.specs.declared.telegrams.Telegram.{Telegram}
 use Rattle.frames.specs.declared.telegrams.Telegram.the-variants.{Authenticate, Status, Good, Other}
-use Rattle.rules.specs.declared.answers.Answer.{Answer}
 use Rattle.rules.specs.declared.answers.Answer.the-variants.{Nothing, Delivered, Frame, Sealed, Taken}
 use Rattle.rules.specs.declared.answers.Refusal.{Refusal}
 use Rattle.rules.specs.declared.answers.Refusal.the-variants as no
 use Rattle.rules.specs.declared.settings.Settings.{Settings}
 use Rattle.rules.specs.Calls.{Buffers, Call, Step, announce, arrive, due, hang-up, pass, quietly, refuse, send}
-use Rattle.rules.specs.GroupTime.{follow, heard, next-time, notice-serial, notice-tag, notified-at, sent-at, tag-of, within}
+use Rattle.rules.specs.GroupTime.{heard, next-time, notice-serial, notice-tag, notified-at, sent-at, tag-of, within}
 use Rattle.rules.specs.Limits.{last-time, may-deliver, numbers, slots}
 use Rattle.rules.specs.Making.{latency, own-serial}
 use Rattle.rules.specs.Meaning.{Meaning}

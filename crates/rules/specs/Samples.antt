@@ -4,10 +4,8 @@ use mathlib.Core.List.{List, [], _∷_, _++_, map}
 use mathlib.Core.Path.{_≡_}
 use Prim.Native.Nat.{ℕ, _-_, _^_}
 use lib.ListN.{replicate}
-use Rattle.std.specs.declared.option.Option.the-variants.{Some, None}
 use Rattle.std.specs.declared.result.Result.{Result}
 use Rattle.std.specs.declared.result.Result.the-variants.{Ok, Err}
-use Rattle.octets.proofs.Laws.{xor-keeps-length}
 use Rattle.octets.specs.Runs.{xor}
 use Rattle.frames.specs.Sealing.{authenticate-mac, wrapper}
 use Rattle.frames.specs.Writing.{authenticate, status}
@@ -24,11 +22,11 @@ use Rattle.rules.specs.declared.answers.Refusal.{Refusal}
 use Rattle.rules.specs.declared.answers.Refusal.the-variants as no
 use Rattle.rules.specs.declared.settings.Settings.{Settings}
 use Rattle.rules.specs.declared.settings.User.{User}
-use Rattle.rules.specs.Calls.{Buffers, Call, announce, arrive, due, hang-up, pass, send}
+use Rattle.rules.specs.Calls.{Buffers, Call, announce, arrive, due, hang-up, pass}
 use Rattle.rules.specs.Making.{acceptable, sync}
 use Rattle.rules.specs.Meaning.{Meaning}
 use Rattle.rules.specs.Rules.{next}
-use Rattle.rules.specs.Runs.{Event, history, state}
+use Rattle.rules.specs.Runs.{history, state}
 
 -- the KNX sealer over the bench cipher
 abbrev pub bench : Meaning

@@ -1,16 +1,14 @@
 -- Masking part by part is XOR with the whole stream. Assumes nothing.
 use mathlib.Core.Path.{_≡_, refl, sym, ap, _∙_}
 use mathlib.Core.List.{List, [], _∷_, _++_}
-use Prim.Native.Nat.{ℕ, zero, suc, _+_, _-_, _*_, _/_, _<_, _≤_}
-use native.Mathlib.Numerals.{add-one}
+use Prim.Native.Nat.{ℕ, zero, suc, _+_, _-_, _*_, _≤_}
 use native.Mathlib.Omega.{arith}
 use lib.Bits.{bitXor}
 use lib.ListN.{length, take, drop}
 use borrow.Rule.Slice.PartMut.{putMid}
-use Rattle.std.proofs.shelf.Lists.{append-assoc, append-nil, drop-all, drop-at, drop-drop, length-append, length-drop, length-take-le, take-append-le, take-at, take-all, take-rest}
-use Rattle.octets.proofs.Laws.{xor-keeps-length}
+use Rattle.std.proofs.shelf.Lists.{append-assoc, append-nil, drop-all, drop-at, drop-drop, length-drop, length-take-le, take-all, take-rest}
 use Rattle.octets.specs.Runs.{xor}
-use Rattle.sealer.specs.Counter.{counter, stream, blocks-for, masked}
+use Rattle.sealer.specs.Counter.{counter, stream}
 
 -- a write to all that lies from a place on
 pub put-rest : (a : ℕ) (xs ys : List ℕ) → putMid a (length xs - a) xs ys ≡ take a xs ++ ys

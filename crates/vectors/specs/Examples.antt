@@ -1,7 +1,6 @@
 -- Two examples of FIPS 197, as statements about the definition of AES-128. Assumes nothing.
-use mathlib.Core.List.{List, [], _∷_}
+use mathlib.Core.List.{[], _∷_}
 use mathlib.Core.Path.{_≡_}
-use Prim.Native.Nat.{ℕ}
 use Rattle.cipher.specs.Aes.{aes-128}
 
 -- key, block and result of appendix B

@@ -5,6 +5,7 @@ pub returns : need.returns
 returns c = record {
   run-is-part = proved.run-is-part;
   number-of-whole = proved.number-of-whole;
+  number-below = proved.number-below;
   over-keeps-length = proved.over-keeps-length;
   over-is-read = proved.over-is-read;
   over-keeps-before = proved.over-keeps-before;

@@ -1,6 +1,5 @@
 use mathlib.Core.Path.{_≡_}
 use Prim.Native.Nat.{_-_}
-use lib.ListN.{length}
 use Rattle.sealer.proofs.Masking.{finished}
 use Rattle.sealer.proofs.counter.mask.Given as given
 
