@@ -1,5 +1,5 @@
 // AES-128 as in FIPS 197.
-ghost use Prim.Native.Nat.{ℕ, _+_, _<_};
+ghost use Prim.Native.Nat.{_+_, _<_};
 ghost use Rattle.cipher.specs.Aes.{
   add-round-key,
   aes-128,
@@ -25,7 +25,7 @@ ghost use Rattle.cipher.specs.Sbox.{sub};
 ghost use Rattle.cipher.specs.Width.{aes-wide};
 ghost use Rattle.octets.specs.Runs.{xor};
 ghost use lib.ListN.{getD, set};
-ghost use mathlib.Core.List.{[], _∷_, map};
+ghost use mathlib.Core.List.{[], _∷_};
 ghost use mathlib.Core.Path.{_≡_};
 use crate::Block;
 use crate::BlockCipher;

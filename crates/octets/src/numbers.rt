@@ -1,5 +1,5 @@
 // Numbers of 16, 32 and 48 bits in octets, the highest first.
-ghost use Prim.Native.Nat.{ℕ, _+_, _^_, _<_, _≤_};
+ghost use Prim.Native.Nat.{_+_, _^_, _<_, _≤_};
 ghost use Rattle.octets.specs.Numbers.{octets-of};
 ghost use Rattle.octets.specs.Runs.{number, over-at};
 ghost use lib.ListN.{length};

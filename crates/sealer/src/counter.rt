@@ -1,10 +1,10 @@
 // Counter mode: the text XORed with enciphered counter blocks.
-ghost use Prim.Native.Nat.{ℕ, _*_, _+_, _<_, _≤_};
+ghost use Prim.Native.Nat.{_*_, _+_, _<_, _≤_};
 ghost use Rattle.octets.specs.Runs.{xor};
 ghost use Rattle.sealer.specs.Counter.{counter, masked};
 ghost use Rattle.sealer.specs.Limits.{largest-telegram};
 ghost use lib.ListN.{drop, length, take};
-ghost use mathlib.Core.List.{List, _++_};
+ghost use mathlib.Core.List.{_++_};
 ghost use mathlib.Core.Path.{_≡_};
 use crate::Nonce;
 use cipher::Block;

@@ -3,7 +3,7 @@ pub mod counter;
 pub mod mac;
 pub mod sealers;
 
-ghost use Prim.Native.Nat.{ℕ, _≤_};
+ghost use Prim.Native.Nat.{_≤_};
 ghost use Rattle.sealer.specs.Limits.{largest-telegram};
 ghost use Rattle.sealer.specs.Samples.{Notice-sample, Wrapper-sample};
 ghost use Rattle.sealer.specs.Sealing.{Apart, Complete, Long, Opened, Openings, Sealed, Sound, Wide};

@@ -1,5 +1,5 @@
 // The MAC: CBC over what it covers, masked by the enciphered counter block 0.
-ghost use Prim.Native.Nat.{ℕ, _<_, _≤_};
+ghost use Prim.Native.Nat.{ℕ, _<_};
 ghost use Rattle.octets.specs.Runs.{xor};
 ghost use Rattle.octets.specs.Numbers.{octets-of};
 ghost use Rattle.sealer.specs.Absorbing.{finish};
