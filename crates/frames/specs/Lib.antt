@@ -5,3 +5,4 @@ pub mod Telegrams
 pub mod Writing
 pub mod Laws
 pub mod Sealing
+pub mod Opening
