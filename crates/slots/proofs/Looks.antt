@@ -86,17 +86,17 @@ none-apart (Some s) e = absurd (both-ways false refl e)
 apart-none : (o : Option Session) → o ≡ None → not (isSome o) ≡ true
 apart-none o e = rw e refl
 
-some-none : (s : Session) → Some s ≡ None → ⊥
+pub some-none : (s : Session) → Some s ≡ None → ⊥
 some-none s e = let z : _≡_ {A = ℕ} 0 1 = cc in omega arith
 
 -- what rows that are apart say of the first one
-apart-here : (r : Slot) (rs : List Slot) → Distinct (r ∷ rs) → look-up rs (r .number) ≡ None
+pub apart-here : (r : Slot) (rs : List Slot) → Distinct (r ∷ rs) → look-up rs (r .number) ≡ None
 apart-here r rs d = none-apart _ (and-parts (not (isSome (look-up rs (r .number)))) (distinct rs) d .0)
 
-apart-rest : (r : Slot) (rs : List Slot) → Distinct (r ∷ rs) → Distinct rs
+pub apart-rest : (r : Slot) (rs : List Slot) → Distinct (r ∷ rs) → Distinct rs
 apart-rest r rs d = and-parts (not (isSome (look-up rs (r .number)))) (distinct rs) d .1
 
-apart-cons : (r : Slot) (rs : List Slot) → look-up rs (r .number) ≡ None → Distinct rs → Distinct (r ∷ rs)
+pub apart-cons : (r : Slot) (rs : List Slot) → look-up rs (r .number) ≡ None → Distinct rs → Distinct (r ∷ rs)
 apart-cons r rs e d = and-from _ _ (apart-none _ e) d
 
 pub by-test : (b : Bool) (P : Type 0) → (b ≡ true → P) → (b ≡ false → P) → P

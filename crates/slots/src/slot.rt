@@ -1,5 +1,5 @@
 // One row of the session table.
-ghost use Prim.Native.Nat.{_+_, _<_};
+ghost use Prim.Native.Nat.{_<_};
 ghost use Rattle.rules.specs.Limits.{numbers};
 ghost use Rattle.rules.specs.Sessions.{above, begun, lapsed, opened-by, sent-one};
 ghost use Rattle.slots.specs.Rows.{has, is-free, lapsed-row, session-of, user-of, waited-row};

@@ -1,5 +1,5 @@
 // The table, changed one row at a time.
-ghost use Prim.Native.Nat.{ℕ, _+_, _<_, _≤_};
+ghost use Prim.Native.Nat.{ℕ, _<_};
 ghost use Rattle.rules.specs.Limits.{session-numbers, slots};
 ghost use Rattle.slots.specs.Lapses.{Lapses, least, or-at, precedes};
 ghost use Rattle.slots.specs.Rows.{Distinct, free-row, look-up, row, session-of, waited-row};
