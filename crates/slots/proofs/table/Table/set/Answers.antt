@@ -1,0 +1,11 @@
+use borrow.Author.Needs.{needs}
+use Prim.Native.Nat.{_<_}
+use lib.ListN.{length}
+use Rattle.slots.proofs.Looks.{changed}
+use Rattle.slots.proofs.table.Table.set.Needs as need
+
+pub returns : need.returns
+returns c =
+    let rows = c .args .self .now .rows in
+    let inside : c .args .at < length rows = search needs in
+    changed rows (c .write .last .rows) (c .args .at) (c .args .slot) inside (c .pre .same) (c .pre .some) (c .pre .apart) (c .write .ensures)
