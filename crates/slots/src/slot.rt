@@ -88,7 +88,7 @@ impl Slot {
         patience <= self.idle
     }
 
-    // Whether there is a session, and it has.
+    // The same, of a row: a free one has no session to lapse.
     pub fn has_lapsed(&self) -> bool
         ensures { λ r. ⌜ r ≡ lapsed-row (now (self .entry)) ⌝ }
     {
