@@ -1,24 +1,21 @@
 -- The lapsed row with the smallest number is the session that the rules pick. Assumes nothing.
-use mathlib.Core.Bool.{Bool, true, false, cond, not}
+use mathlib.Core.Bool.{Bool, true, false, not}
 use mathlib.Core.List.{List, [], _∷_}
-use mathlib.Core.Logic.{_⊎_, inl, inr, ⊎-elim}
+use mathlib.Core.Logic.{_⊎_, ⊎-elim}
 use mathlib.Core.Path.{_≡_, refl, sym, ap, subst, _∙_}
 use Prim.Native.Nat.{ℕ, zero, suc, _+_, _≤_, _<_}
 use native.Mathlib.Numerals.{add-one}
 use native.Mathlib.Omega.{arith}
-use lib.Dec.{eqb, ltb}
 use lib.ListN.{length}
-use Rattle.std.proofs.shelf.Tests.{and-from, and-parts, both-ways, cases-eq, cases-lt, cond-false, cond-true, ltb-false, ltb-true}
+use Rattle.std.proofs.shelf.Tests.{and-parts, both-ways, cases-eq, cond-false, cond-true, ltb-false, ltb-true}
 use Rattle.std.proofs.shelf.Ways.{tells}
 use Rattle.std.specs.Options.{Cases}
 use Rattle.std.specs.declared.option.Option.{Option}
 use Rattle.std.specs.declared.option.Option.the-variants.{Some, None}
 use Rattle.rules.specs.Limits.{session-numbers}
-use Rattle.rules.specs.Model.{Session}
 use Rattle.rules.specs.Sessions.{first, is-lapsed, lapsed}
-use Rattle.slots.specs.Lapses.{Lapsed, Lapses, least, or-at, precedes}
+use Rattle.slots.specs.Lapses.{Lapses, least, or-at, precedes}
 use Rattle.slots.specs.Rows.{Distinct, has, is-free, lapsed-row, look-up, row, session-of}
-use Rattle.slots.specs.Tables.{Found}
 use Rattle.slots.specs.declared.slot.Slot.{Slot}
 use Rattle.slots.proofs.Looks.{by-test, has-is, look-row}
 

@@ -1,7 +1,6 @@
 -- Rows as a gateway's sessions. Assumes nothing.
-use mathlib.Core.Bool.{Bool, true, false}
+use mathlib.Core.Bool.{false}
 use mathlib.Core.List.{List, [], _∷_}
-use mathlib.Core.Logic.{_↔_}
 use mathlib.Core.Path.{_≡_, refl, sym, ap, _∙_}
 use Prim.Native.Nat.{ℕ, zero, suc, _<_}
 use native.Mathlib.Nat.{le-of-suc-le-suc}
@@ -9,7 +8,7 @@ use native.Mathlib.Omega.{arith}
 use lib.ListN.{length}
 use Rattle.rules.specs.Model.{new}
 use Rattle.slots.specs.Laws.{Distinct-is-apart, Empty-is-the-rule, Lapsed-is-the-rule, Puts-is-the-rule, Waits-is-the-rule, with-sessions}
-use Rattle.slots.specs.Rows.{Distinct, has, look-up, row}
+use Rattle.slots.specs.Rows.{Distinct, has, row}
 use Rattle.slots.specs.declared.slot.Slot.{Slot}
 use Rattle.slots.proofs.Looks.{apart-cons, apart-here, apart-rest, by-test, has-is, look-none, look-row, some-none}
 

@@ -1,5 +1,5 @@
 use borrow.Author.Count.{below-more}
-use mathlib.Core.Path.{_≡_, sym}
+use mathlib.Core.Path.{sym}
 use native.Mathlib.Omega.{arith}
 use Rattle.slots.proofs.Looks.{free-at, held-all}
 use Rattle.slots.proofs.table.free_place.Needs as need

@@ -1,9 +1,6 @@
 use borrow.Author.Count.{below-more}
-use borrow.Author.Needs.{needs}
-use mathlib.Core.Path.{_≡_, sym}
-use Prim.Native.Nat.{_<_}
+use mathlib.Core.Path.{sym}
 use native.Mathlib.Omega.{arith}
-use lib.ListN.{length}
 use Rattle.slots.proofs.Looks.{found, look-none}
 use Rattle.slots.proofs.table.place_of.Needs as need
 
