@@ -20,7 +20,7 @@ use Rattle.frames.specs.declared.telegrams.Telegram.{Telegram}
 use Rattle.frames.specs.declared.telegrams.Telegram.the-variants.{Authenticate, Status, Good, Other}
 use Rattle.sealer.specs.Comparing.{same-true}
 use Rattle.sealer.specs.Sealing.{same}
-use Rattle.rules.specs.declared.answers.Answer.the-variants.{Delivered, Frame, Taken}
+use Rattle.rules.specs.declared.answers.Answer.the-variants.{Taken}
 use Rattle.rules.specs.declared.answers.Refusal.the-variants as no
 use Rattle.rules.specs.declared.settings.Settings.{Settings}
 use Rattle.rules.specs.Calls.{Buffers, Call, Step, arrive, quietly}
@@ -32,7 +32,7 @@ use Rattle.rules.specs.Model.{Model, Session, put}
 use Rattle.rules.specs.Rules.{act, deliver, end, on, opened-session, own-wrapper, sign, tell, wrapper-of}
 use Rattle.rules.specs.Runs.{lent, noted}
 use Rattle.rules.specs.Sessions.{above, by-hash, by-parts, lapsed, opened-by, signs-in}
-use Rattle.rules.proofs.Facts.{cond-case, none-some, some-some, take-over}
+use Rattle.rules.proofs.Facts.{cond-case, no-delivery, none-some, some-some, take-over}
 use Rattle.rules.proofs.Frames.{cipher, code, lead, signed-frame, status-back, wrapper-back}
 use Rattle.rules.proofs.Moves.{secrets}
 use Rattle.rules.proofs.Steps as step
@@ -84,12 +84,6 @@ module _ (set : Settings) (M : Meaning) (proper : Proper-settings set) where
     pub out-time : time-out (noted g c r) ≡ None
     out-time = step.out-time set M g c m s x (own-wrapper set M m s x) (s .own) (own-serial set) 0 _ _ _ _ (good .nonzero) back refl opens-to r is-written shown
 
-  no-frame : (size n k user sz : ℕ) → Frame size ≡ Delivered n k user sz → ⊥
-  no-frame size n k user sz e = let z : _≡_ {A = ℕ} 0 1 = cc in omega arith
-
-  no-taken : (n k user sz : ℕ) → Taken ≡ Delivered n k user sz → ⊥
-  no-taken n k user sz e = let z : _≡_ {A = ℕ} 0 1 = cc in omega arith
-
   -- a wrapper of session m came in and opened to t
   module _ (g : Model) (frame offer : List ℕ) (lot : ℕ) (b : Buffers) (m count serial tag : ℕ) (associated nc ct mc : List ℕ)
       (rd : reading frame ≡ Ok (a-wrapper m count serial tag associated nc ct mc)) (s : Session) (t : List ℕ)
@@ -108,21 +102,21 @@ module _ (set : Settings) (M : Meaning) (proper : Proper-settings set) where
         (out-kind g c m s (status code′) good (omega arith) (omega arith) (end set M g m s code′) refl refl ∙ ap Some (status-back code′))
         (out-seals g c m s (status code′) good (omega arith) (omega arith) (end set M g m s code′) refl refl)
         (out-time g c m s (status code′) good (omega arith) (omega arith) (end set M g m s code′) refl refl)
-        (λ n k user size q. absurd (no-frame _ n k user size q))
+        (λ n k user size q. absurd (no-delivery _ refl n k user size (ap Ok q)))
         refl (rw nz refl)
 
     -- a close is taken and the session ends
     close-fine : closing (telegram-kind t) ≡ true → Fine set M g c (quietly (put g m None) Taken)
     close-fine cl =
         step.wrapper-stops set M g frame offer lot b m count serial tag associated nc ct mc rd s t f at (good .nonzero) ab un (quietly (put g m None) Taken) Taken refl None
-        (λ n ne. refl) refl (λ k p. absurd (none-some k p)) refl (λ n k user size q. absurd (no-taken n k user size q))
+        (λ n ne. refl) refl (λ k p. absurd (none-some k p)) refl (λ n k user size q. absurd (no-delivery (Ok Taken) refl n k user size (ap Ok q)))
         refl cl
 
     -- what is taken otherwise
     taken-fine : closing (telegram-kind t) ≡ false → Fine set M g c (quietly (on set M g m s count) Taken)
     taken-fine cl =
         step.wrapper-goes set M g frame offer lot b m count serial tag associated nc ct mc rd s t f at (good .nonzero) ab un (quietly (on set M g m s count) Taken) Taken refl None
-        (λ n ne. refl) refl (λ k p. absurd (none-some k p)) refl (λ n k user size q. absurd (no-taken n k user size q))
+        (λ n ne. refl) refl (λ k p. absurd (none-some k p)) refl (λ n k user size q. absurd (no-delivery (Ok Taken) refl n k user size (ap Ok q)))
         (s .own) (s .user) refl cl (omega arith) (good .countable) (good .fresh) (λ k p. absurd (none-some k p)) (λ v p. inl p)
 
     -- a delivery
@@ -152,7 +146,7 @@ module _ (set : Settings) (M : Meaning) (proper : Proper-settings set) where
         let seals = out-seals g c m s (status 0) good (omega arith) (omega arith) r refl refl in
         let times = out-time g c m s (status 0) good (omega arith) (omega arith) r refl refl in
         step.wrapper-goes set M g frame offer lot b m count serial tag associated nc ct mc rd s t f at (good .nonzero) ab un r _ refl (Some (Status 0))
-        else kinds seals times (λ n k u size q. absurd (no-frame _ n k u size q))
+        else kinds seals times (λ n k u size q. absurd (no-delivery _ refl n k u size (ap Ok q)))
         (s .own + 1) (Some user) refl refl (omega arith) (omega arith) (λ q. absurd (none-some user (sym q)))
         (λ k q. omega (arith, seals k q))
         (λ v q. inr (subst (λ w. Signs-in set M (secrets s) m w (noted g c r)) (some-some user v q) (record {
@@ -161,7 +155,7 @@ module _ (set : Settings) (M : Meaning) (proper : Proper-settings set) where
           known = p .3 .1;
           frame =
               step.in-held set M g frame offer lot b m count serial tag associated nc ct mc rd s t f at (good .nonzero) ab un r _ refl (Some (Status 0))
-              else kinds seals times (λ n k u size q. absurd (no-frame _ n k u size q))
+              else kinds seals times (λ n k u size q. absurd (no-delivery _ refl n k u size (ap Ok q)))
               ∙ ap Some full;
         })))
 

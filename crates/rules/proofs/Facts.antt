@@ -1,17 +1,22 @@
 -- Small facts on options, tests and lists. Assumes nothing.
 use mathlib.Core.Bool.{Bool, true, false, cond}
 use mathlib.Core.List.{List, [], _∷_}
-use mathlib.Core.Path.{_≡_, refl}
+use mathlib.Core.Path.{_≡_, ap, refl}
 use Prim.Native.Nat.{ℕ, _≤_}
 use native.Mathlib.Omega.{arith}
 use lib.ListN.{length, take, drop}
 use Rattle.std.proofs.shelf.Lists.{take-at}
+use Rattle.std.proofs.shelf.Tests.{both-ways}
 use Rattle.std.specs.Vec.{Every}
 use Rattle.std.specs.declared.option.Option.{Option}
 use Rattle.std.specs.declared.option.Option.the-variants.{Some, None}
 use Rattle.std.specs.declared.result.Result.{Result}
 use Rattle.std.specs.declared.result.Result.the-variants.{Ok, Err}
 use Rattle.octets.specs.Runs.{over}
+use Rattle.rules.specs.declared.answers.Answer.{Answer}
+use Rattle.rules.specs.declared.answers.Answer.the-variants.{Delivered}
+use Rattle.rules.specs.declared.answers.Refusal.{Refusal}
+use Rattle.rules.specs.Law.{delivered}
 
 pub none-some : {A : Type 0} (x : A) → None ≡ Some x → ⊥
 none-some {A} x p = let z : _≡_ {A = ℕ} 0 1 = cc in omega arith
@@ -36,6 +41,10 @@ cond-case P false x y f g = g refl
 -- what was written stands in front
 pub take-over : (w out : List ℕ) → take (length w) (over w out) ≡ w
 take-over w out = take-at w (drop (length w) out) (length w) refl
+
+-- an answer that is none of delivery
+pub no-delivery : (r : Result Answer Refusal) → delivered r ≡ false → (n count user size : ℕ) → r ≡ Ok (Delivered n count user size) → ⊥
+no-delivery r h n count user size e = both-ways (delivered r) h (ap delivered e)
 
 -- the largest so far, in an option
 abbrev pub Reached : Option ℕ → ℕ → Type 0

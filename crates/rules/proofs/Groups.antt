@@ -10,7 +10,6 @@ use lib.ListN.{length, take}
 use Rattle.std.proofs.shelf.Tests.{lt-ltb, ltb-false, ltb-true, ne-eqb}
 use Rattle.std.specs.declared.option.Option.{Option}
 use Rattle.std.specs.declared.option.Option.the-variants.{Some, None}
-use Rattle.std.specs.declared.result.Result.{Result}
 use Rattle.std.specs.declared.result.Result.the-variants.{Ok}
 use Rattle.octets.proofs.Laws.{number-below}
 use Rattle.octets.specs.Laws.{Octets}
@@ -31,7 +30,7 @@ use Rattle.rules.specs.Model.{Model}
 use Rattle.rules.specs.Rules.{deliver, group-good, group-opened, group-wrapper, noticed}
 use Rattle.rules.specs.Runs.{noted}
 use Rattle.rules.proofs.Counting.{counted-same}
-use Rattle.rules.proofs.Facts.{cond-case, none-some, ok-ok, some-some, take-over}
+use Rattle.rules.proofs.Facts.{cond-case, no-delivery, none-some, ok-ok, some-some, take-over}
 use Rattle.rules.proofs.Frames.{notice-read, wrapper-read}
 use Rattle.rules.proofs.Moves.{Still, aside}
 use Rattle.rules.proofs.Steps.{Fine, Fit, opens-none, refused}
@@ -143,9 +142,6 @@ module _ (set : Settings) (M : Meaning) (g : Model) (frame offer : List ℕ) (lo
         counted = counted-same g (r .to) (ap (λ k. k .sessions) to ∙ h .sessions-are) (ap (λ k. k .held) to ∙ h .held-is);
       }
 
-    no-taken : (n k user sz : ℕ) → Taken ≡ Delivered n k user sz → ⊥
-    no-taken n k user sz q = let z : _≡_ {A = ℕ} 0 1 = cc in omega arith
-
     good-fine : Fine set M g c (group-good set M g time serial tag lot t)
     good-fine = cond-case (Fine set M g c) (within (g .timer) (latency set) time) _ _
         (λ w. group-fine (deliver set M (heard set g time serial tag lot) 0 time 0 t) _ refl refl (λ n. refl) refl (sym w)
@@ -155,7 +151,7 @@ module _ (set : Settings) (M : Meaning) (g : Model) (frame offer : List ℕ) (lo
         let ek : k ≡ time = cc in
         let eu : user ≡ 0 = cc in
         (en, ek, eu, ap (λ j. take j (over t (b .out))) (sym ls) ∙ take-over t (b .out))))
-        (λ w. group-fine (quietly (heard set g time serial tag lot) Taken) Taken refl refl (λ n. refl) refl (sym w) (λ n k user size q. absurd (no-taken n k user size q)))
+        (λ w. group-fine (quietly (heard set g time serial tag lot) Taken) Taken refl refl (λ n. refl) refl (sym w) (λ n k user size q. absurd (no-delivery (Ok Taken) refl n k user size (ap Ok q))))
 
   module _ (time serial tag : ℕ) (associated nc ct mc : List ℕ) (rd : reading frame ≡ Ok (a-wrapper 0 time serial tag associated nc ct mc)) where
     opened-fine : (o : Option (List ℕ)) → M .opened (set .group) nc associated ct mc ≡ o → Fine set M g c (group-opened set M g time serial tag lot o)
@@ -186,12 +182,9 @@ module _ (set : Settings) (M : Meaning) (g : Model) (frame offer : List ℕ) (lo
     none-in : (n : ℕ) → arriving n (noted g c r) ≡ None
     none-in n = ap (given (of-session n)) in-notice
 
-    no-delivery : (n count user size : ℕ) → _≡_ {A = Result Answer Refusal} (Ok Taken) (Ok (Delivered n count user size)) → ⊥
-    no-delivery n count user size q = let z : _≡_ {A = ℕ} 0 1 = cc in omega arith
-
     taken-notice : Fine set M g c r
     taken-notice = record {
-      moved = λ n nz. aside set M g c n r (k .sessions-are) (record { no-in = none-in n; no-out = refl; no-delivery = λ count user size q. no-delivery n count user size q }) refl;
+      moved = λ n nz. aside set M g c n r (k .sessions-are) (record { no-in = none-in n; no-out = refl; no-delivery = λ count user size q. no-delivery (Ok Taken) refl n count user size q }) refl;
       fit = k .fit;
       clocks = record {
         ticks = let i : time-in (noted g c r) ≡ Some time = ap (given group-time) in-notice in rw i (k .timer-is ∙ omega (arith, f .timer, time-fits));
@@ -199,7 +192,7 @@ module _ (set : Settings) (M : Meaning) (g : Model) (frame offer : List ℕ) (lo
         kept = λ j q. rw (k .sent-is) q;
         reached = λ x q. absurd (none-some x q);
         window = λ w q. absurd (none-some w (sym (none-in 0) ∙ q));
-        genuine = λ count user size q. absurd (no-delivery 0 count user size q);
+        genuine = λ count user size q. absurd (no-delivery (Ok Taken) refl 0 count user size q);
       };
       counted = counted-same g (r .to) (k .sessions-are) (k .held-is);
     }

@@ -12,7 +12,6 @@ use Rattle.std.proofs.shelf.Tests.{and-parts, both-ways, eq-eqb, eqb-false, eqb
 use Rattle.std.specs.Options.{isSome}
 use Rattle.std.specs.declared.option.Option.{Option}
 use Rattle.std.specs.declared.option.Option.the-variants.{Some, None}
-use Rattle.std.specs.declared.result.Result.{Result}
 use Rattle.std.specs.declared.result.Result.the-variants.{Ok}
 use Rattle.octets.proofs.Laws.{number-below}
 use Rattle.octets.specs.Laws.{Octets}
@@ -24,9 +23,7 @@ use Rattle.frames.specs.Sealing.{sealed-notice, wrapper}
 use Rattle.frames.specs.Telegrams.{is-good, telegram-kind}
 use Rattle.frames.specs.Writing.{no-session, status}
 use Rattle.frames.specs.declared.telegrams.Telegram.{Telegram}
-use Rattle.rules.specs.declared.answers.Answer.{Answer}
-use Rattle.rules.specs.declared.answers.Answer.the-variants.{Nothing, Delivered, Frame, Sealed, Taken}
-use Rattle.rules.specs.declared.answers.Refusal.{Refusal}
+use Rattle.rules.specs.declared.answers.Answer.the-variants.{Nothing, Delivered, Sealed}
 use Rattle.rules.specs.declared.answers.Refusal.the-variants as no
 use Rattle.rules.specs.declared.settings.Settings.{Settings}
 use Rattle.rules.specs.Calls.{Buffers, Call, Step, announce, arrive, due, hang-up, pass, quietly, send}
@@ -41,22 +38,10 @@ use Rattle.rules.specs.Runs.{lent, noted}
 use Rattle.rules.specs.Sessions.{all-waited, begun, lapsed, sent-one, waited}
 use Rattle.rules.proofs.Acts.{out-else, out-kind, out-seals, out-time, serial-below}
 use Rattle.rules.proofs.Counting.{Counted, count, count-same, counted-put, counted-same}
-use Rattle.rules.proofs.Facts.{Reached, cond-case, none-some, some-some, take-over}
+use Rattle.rules.proofs.Facts.{Reached, cond-case, no-delivery, none-some, some-some, take-over}
 use Rattle.rules.proofs.Frames.{notice-back, response-long, response-unread, status-back, wrapper-back}
 use Rattle.rules.proofs.Moves.{Moves, Says, Still, about, absent, aside, goes, secrets, starts, stops}
 use Rattle.rules.proofs.Steps.{Clocks, Fine, Fit, Good-session, fit-put, idle, opens-none, refused}
-
-no-frame : (size n k user sz : ℕ) → _≡_ {A = Result Answer Refusal} (Ok (Frame size)) (Ok (Delivered n k user sz)) → ⊥
-no-frame size n k user sz e = let z : _≡_ {A = ℕ} 0 1 = cc in omega arith
-
-no-sealed : (size count n k user sz : ℕ) → _≡_ {A = Result Answer Refusal} (Ok (Sealed size count)) (Ok (Delivered n k user sz)) → ⊥
-no-sealed size count n k user sz e = let z : _≡_ {A = ℕ} 0 1 = cc in omega arith
-
-no-taken : (n k user sz : ℕ) → _≡_ {A = Result Answer Refusal} (Ok Taken) (Ok (Delivered n k user sz)) → ⊥
-no-taken n k user sz e = let z : _≡_ {A = ℕ} 0 1 = cc in omega arith
-
-no-nothing : (n k user sz : ℕ) → _≡_ {A = Result Answer Refusal} (Ok Nothing) (Ok (Delivered n k user sz)) → ⊥
-no-nothing n k user sz e = let z : _≡_ {A = ℕ} 0 1 = cc in omega arith
 
 time-later : (t : ℕ) (o : Option ℕ) → t ≤ next-time t o
 time-later t None = omega arith
@@ -87,9 +72,9 @@ module _ (set : Settings) (M : Meaning) (proper : Proper-settings set) where
         let o : went-out (noted g c r) ≡ None = ap (λ (w : List ℕ). readable (reading w)) (take-over no-session (b .out)) in
         record {
           moved = λ n nz. aside set M g c n r refl
-              (record { no-in = ap (given (of-session n)) i; no-out = ap (given (of-session n)) o; no-delivery = λ count user size q. no-frame _ n count user size q }) refl;
+              (record { no-in = ap (given (of-session n)) i; no-out = ap (given (of-session n)) o; no-delivery = λ count user size q. no-delivery _ refl n count user size q }) refl;
           fit = f;
-          clocks = idle set M g c r f refl refl refl (ap (given group-time) i) (ap (given group-time) o) (ap (given (of-session 0)) i) (λ count user size q. no-frame _ 0 count user size q);
+          clocks = idle set M g c r f refl refl refl (ap (given group-time) i) (ap (given group-time) o) (ap (given (of-session 0)) i) (λ count user size q. no-delivery _ refl 0 count user size q);
           counted = λ k. k;
         }
 
@@ -104,7 +89,7 @@ module _ (set : Settings) (M : Meaning) (proper : Proper-settings set) where
         ap (λ (w : List ℕ). readable (reading w)) (take-over (response-to set M x offer) (b .out)) ∙ response-unread M (set .device) m x (offer-y set M offer) (proper .device-length) mb ly in
         let long : eqb (length (response-to set M x offer)) 56 ≡ true = eq-eqb _ 56 (response-long M (set .device) m x (offer-y set M offer) (proper .device-length) mb ly) in
         let still : (n : ℕ) → Still n (noted g c r) = λ n. record
-        { no-in = ap (given (of-session n)) i; no-out = ap (given (of-session n)) o; no-delivery = λ count user size q. no-frame _ n count user size q } in
+        { no-in = ap (given (of-session n)) i; no-out = ap (given (of-session n)) o; no-delivery = λ count user size q. no-delivery _ refl n count user size q } in
         let new = begun (offer-key set M offer) x (offer-y set M offer) in
         record {
           moved = about set M g c m (Some new) r refl (λ n ne nz. still n)
@@ -113,7 +98,7 @@ module _ (set : Settings) (M : Meaning) (proper : Proper-settings set) where
               (starts (offer-key set M offer) x (offer-y set M offer) (still m)
               (let same = eq-eqb m m refl in rw (long, rd, same) refl)));
           fit = fit-put g m (Some new) f (λ s q. subst (Good-session m) (some-some new s q) (record { nonzero = mz; numbered = mb; keyed = lk; countable = omega arith; fresh = λ _. refl }));
-          clocks = idle set M g c r f refl refl refl (ap (given group-time) i) (ap (given group-time) o) (ap (given (of-session 0)) i) (λ count user size q. no-frame _ 0 count user size q);
+          clocks = idle set M g c r f refl refl refl (ap (given group-time) i) (ap (given group-time) o) (ap (given (of-session 0)) i) (λ count user size q. no-delivery _ refl 0 count user size q);
           counted = counted-put g m (Some new) mb (λ _. room);
         }
 
@@ -134,12 +119,12 @@ module _ (set : Settings) (M : Meaning) (proper : Proper-settings set) where
     r = passed set M g ms
 
     still : (n : ℕ) → Still n (noted g (pass ms) r)
-    still n = record { no-in = refl; no-out = refl; no-delivery = λ count user size q. no-taken n count user size q }
+    still n = record { no-in = refl; no-out = refl; no-delivery = λ count user size q. no-delivery _ refl n count user size q }
 
     waits : (n : ℕ) (o : Option Session) → Moves set M n (noted g (pass ms) r) o (all-waited ms o)
     waits n None = absent (still n) refl
     waits n (Some s) = goes s (waited ms s) refl refl
-        (record { hears = λ k p. absurd (none-some k p); seals = λ k p. absurd (none-some k p); delivers = λ count user size q. absurd (no-taken n count user size q) })
+        (record { hears = λ k p. absurd (none-some k p); seals = λ k p. absurd (none-some k p); delivers = λ count user size q. absurd (no-delivery _ refl n count user size q) })
         (record { secrets-kept = refl; last-kept = λ j h. h; last-new = λ k p. absurd (none-some k p); own-kept = omega arith; own-new = λ k p. absurd (none-some k p); user-new = λ u p. inl p })
 
     waited-fit : (n : ℕ) (o : Option Session) → g .sessions n ≡ o → (s : Session) → all-waited ms o ≡ Some s → Good-session n s
@@ -162,7 +147,7 @@ module _ (set : Settings) (M : Meaning) (proper : Proper-settings set) where
         kept = λ j h. h;
         reached = λ x q. absurd (none-some x q);
         window = λ w q. absurd (none-some w q);
-        genuine = λ count user size q. absurd (no-taken 0 count user size q);
+        genuine = λ count user size q. absurd (no-delivery _ refl 0 count user size q);
       };
       counted = λ k. record { is = count-same session-numbers 0 _ _ (λ n l. still-there (g .sessions n)) ∙ k .is; few = k .few };
     }
@@ -240,7 +225,7 @@ module _ (set : Settings) (M : Meaning) (proper : Proper-settings set) where
     hang-up-fine None at = refused set M g (hang-up n b) no.Session refl f
     hang-up-fine (Some s) at = cond-case (Fine set M g (hang-up n b)) (lapsed s) _ _
         (λ _. refused set M g (hang-up n b) no.Session refl f)
-        (λ _. out-stops g (hang-up n b) n s (status 5) f at (omega arith) (omega arith) refl (end set M g n s 5) refl refl refl (λ k. refl) (λ k j u z q. no-frame _ k j u z q) refl (ap ending (status-back 5)))
+        (λ _. out-stops g (hang-up n b) n s (status 5) f at (omega arith) (omega arith) refl (end set M g n s 5) refl refl refl (λ k. refl) (λ k j u z q. no-delivery _ refl k j u z q) refl (ap ending (status-back 5)))
 
   -- SEND
 
@@ -259,7 +244,7 @@ module _ (set : Settings) (M : Meaning) (proper : Proper-settings set) where
         cond-case (Fine set M g (send n t b)) (ltb (s .own) last-time) _ _
         (λ lt. out-goes g (send n t b) n s t f at (l .0) (l .1) refl
         (record { to = put g n (Some (sent-one s)); answer = Ok (Sealed (length (own-wrapper set M n s t)) (s .own)); written = own-wrapper set M n s t })
-        refl refl refl (λ k. refl) (λ k j u z q. no-sealed _ _ k j u z q) refl (ap ending (good-is-apart t good)) (ltb-true (s .own) last-time lt) user us)
+        refl refl refl (λ k. refl) (λ k j u z q. no-delivery _ refl k j u z q) refl (ap ending (good-is-apart t good)) (ltb-true (s .own) last-time lt) user us)
         (λ _. refused set M g (send n t b) no.NumbersSpent refl f)
 
     pub send-fine : (o : Option Session) → g .sessions n ≡ o → Fine set M g (send n t b) (send-in set M g n t o)
@@ -318,7 +303,7 @@ module _ (set : Settings) (M : Meaning) (proper : Proper-settings set) where
         (ap (λ (w : List ℕ). readable (reading w)) (take-over announced-octets (b .out))
         ∙ ap readable (wrapper-back M (set .group) 0 at-time (own-serial set) (tag-of lot) t (proper .group-length) (omega arith) below (serial-below set M proper) (omega arith) (l .0) (l .1)))
         refl (λ n nz. let z = ne-eqb n 0 nz in rw z refl)
-        refl (λ k. refl) (λ k j u z q. no-sealed _ _ k j u z q) refl refl refl refl (f .wanted))
+        refl (λ k. refl) (λ k j u z q. no-delivery _ refl k j u z q) refl refl refl refl (f .wanted))
         (λ _. refused set M g (announce t lot b) no.TimesSpent refl f)
 
     pub announce-fine : Fine set M g (announce t lot b) (announced set M g t lot)
@@ -329,9 +314,9 @@ module _ (set : Settings) (M : Meaning) (proper : Proper-settings set) where
   module _ (g : Model) (lot : ℕ) (b : Buffers) (f : Fit g) where
     nothing-fine : Fine set M g (due lot b) (quietly g Nothing)
     nothing-fine = record {
-      moved = λ n nz. aside set M g (due lot b) n (quietly g Nothing) refl (record { no-in = refl; no-out = refl; no-delivery = λ k user size q. no-nothing n k user size q }) refl;
+      moved = λ n nz. aside set M g (due lot b) n (quietly g Nothing) refl (record { no-in = refl; no-out = refl; no-delivery = λ k user size q. no-delivery _ refl n k user size q }) refl;
       fit = f;
-      clocks = idle set M g (due lot b) (quietly g Nothing) f refl refl refl refl refl refl (λ k user size q. no-nothing 0 k user size q);
+      clocks = idle set M g (due lot b) (quietly g Nothing) f refl refl refl refl refl refl (λ k user size q. no-delivery _ refl 0 k user size q);
       counted = λ k. k;
     }
 
@@ -357,12 +342,12 @@ module _ (set : Settings) (M : Meaning) (proper : Proper-settings set) where
         (ap (λ (w : List ℕ). readable (reading w)) (take-over notice-octets (b .out))
         ∙ ap readable (notice-back M (set .group) due-time (notice-serial (g .wanted) (own-serial set)) (notice-tag (g .wanted) lot) (proper .group-length) below (serial-fits (g .wanted) (f .wanted)) (tag-fits (g .wanted) (f .wanted))))
         refl (λ n nz. refl)
-        refl (λ k. refl) (λ k j u z q. no-frame _ k j u z q) refl refl refl refl (λ w q. absurd (none-some w q)))
+        refl (λ k. refl) (λ k j u z q. no-delivery _ refl k j u z q) refl refl refl refl (λ w q. absurd (none-some w q)))
         (λ _. nothing-fine)
 
     lapsed-fine : (n : ℕ) (o : Option Session) → g .sessions n ≡ o → Fine set M g (due lot b) (end-lapsed set M g n o)
     lapsed-fine n None at = nothing-fine
-    lapsed-fine n (Some s) at = out-stops g (due lot b) n s (status 3) f at (omega arith) (omega arith) refl (end set M g n s 3) refl refl refl (λ k. refl) (λ k j u z q. no-frame _ k j u z q) refl (ap ending (status-back 3))
+    lapsed-fine n (Some s) at = out-stops g (due lot b) n s (status 3) f at (omega arith) (omega arith) refl (end set M g n s 3) refl refl refl (λ k. refl) (λ k j u z q. no-delivery _ refl k j u z q) refl (ap ending (status-back 3))
 
     pub due-fine : (o : Option ℕ) → Fine set M g (due lot b) (due-now set M g lot o)
     due-fine None = notice-fine

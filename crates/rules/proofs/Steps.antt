@@ -29,7 +29,7 @@ use Rattle.rules.specs.Model.{Model, Session, put}
 use Rattle.rules.specs.Runs.{Event, lent, noted}
 use Rattle.rules.specs.Sessions.{above, opened-by}
 use Rattle.rules.proofs.Counting.{Counted, counted-put}
-use Rattle.rules.proofs.Facts.{Reached, none-some, ok-ok, some-some, take-over}
+use Rattle.rules.proofs.Facts.{Reached, no-delivery, none-some, ok-ok, some-some, take-over}
 use Rattle.rules.proofs.Frames.{wrapper-read}
 use Rattle.rules.proofs.Moves.{Moved, Moves, Says, Still, about, above-reached, aside, goes, secrets, stops}
 
@@ -87,14 +87,11 @@ module _ (set : Settings) (M : Meaning) where
     genuine = λ count user size q. absurd (d count user size q);
   }
 
-  pub no-err : (why : Refusal) (a : Answer) → _≡_ {A = Result Answer Refusal} (Err why) (Ok a) → ⊥
-  no-err why a e = let z : _≡_ {A = ℕ} 0 1 = cc in omega arith
-
   pub refused : (g : Model) (c : Call) (why : Refusal) → milliseconds set M c ≡ 0 → Fit g → Fine g c (refuse g why)
   refused g c why p f = record {
-    moved = λ n nz. aside set M g c n (refuse g why) refl (record { no-in = refl; no-out = refl; no-delivery = λ count user size q. no-err why _ q }) refl;
+    moved = λ n nz. aside set M g c n (refuse g why) refl (record { no-in = refl; no-out = refl; no-delivery = λ count user size q. no-delivery (Err why) refl _ count user size q }) refl;
     fit = f;
-    clocks = idle g c (refuse g why) f p refl refl refl refl refl (λ count user size q. no-err why _ q);
+    clocks = idle g c (refuse g why) f p refl refl refl refl refl (λ count user size q. no-delivery (Err why) refl _ count user size q);
     counted = λ k. k;
   }
 
