@@ -1,4 +1,6 @@
 // Block ciphers: the trait, AES-128 and the bench cipher.
+#![tactic(auto)]
+
 pub mod aes;
 pub mod bench;
 

@@ -1,4 +1,6 @@
 // The group's time as the gateway keeps it.
+#![tactic(auto)]
+
 pub mod group;
 
 ghost use Rattle.clock.specs.Laws.{

@@ -1,4 +1,6 @@
 // Tests of the frames: published ones, and good and damaged ones of every length.
+#![tactic(auto)]
+
 #[cfg(test)]
 mod reading;
 #[cfg(test)]

@@ -1,4 +1,6 @@
 // Frames: what arrives is read in place, and what goes out is written into a lent buffer.
+#![tactic(auto)]
+
 mod headers;
 pub mod opening;
 pub mod reading;

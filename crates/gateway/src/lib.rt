@@ -1,5 +1,7 @@
 // The gateway: making, the six calls and the group timer, over any sealer, in fixed tables and lent buffers; and whole runs, which
 // need a heap for their events.
+#![tactic(auto)]
+
 mod calls;
 mod gateway;
 mod runs;

@@ -1,4 +1,6 @@
 // Octets: numbers with the highest octet first, and XOR of runs of octets.
+#![tactic(auto)]
+
 pub mod hex;
 pub mod numbers;
 pub mod runs;

@@ -1,5 +1,7 @@
 // The rules of the gateway: settings, answers and refusals as types; in specs/ the rule of each call, whole runs, and the
 // law over runs; in proofs/ that every run keeps it. The functions here have nothing to compute: their contracts are theorems.
+#![tactic(auto)]
+
 pub mod answers;
 pub mod settings;
 

@@ -1,4 +1,6 @@
 // The call script: lines of text that make gateways, call them, and print what each call answers.
+#![tactic(auto)]
+
 mod answers;
 mod book;
 pub mod faults;

@@ -1,4 +1,6 @@
 // Sealing and opening: authenticated encryption of telegrams over any block cipher.
+#![tactic(auto)]
+
 pub mod counter;
 pub mod mac;
 pub mod sealers;

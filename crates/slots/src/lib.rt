@@ -1,4 +1,6 @@
 // The session table: eight rows, each free or with one session.
+#![tactic(auto)]
+
 pub mod slot;
 pub mod table;
 

@@ -1,4 +1,6 @@
 // Measures how fast the library is; bench/run holds it against plain C.
+#![tactic(auto)]
+
 mod ciphers;
 mod sealing;
 

@@ -1,5 +1,7 @@
 // What stands so far, from beginning to end: the worked example of FIPS 197, the MAC of a timer notify under the bench
 // cipher, and the KNX sample session from its request to its sign-in.
+#![tactic(auto)]
+
 mod ciphers;
 mod session;
 

@@ -1,4 +1,6 @@
 // The gateway's fields, and the steps of the rules carried out on them.
+#![tactic(auto)]
+
 mod acts;
 mod arrivals;
 mod calls;

@@ -1,4 +1,6 @@
 // Tries the library against published vectors: AES-128 against FIPS 197, the KNX sealer against the KNX sample session.
+#![tactic(auto)]
+
 mod ciphers;
 mod sealing;
 
