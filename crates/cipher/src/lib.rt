@@ -33,7 +33,7 @@ pub trait BlockCipher {
 
 // Enciphers one block under a key that is wanted only once.
 pub fn encipher_once<C: BlockCipher>(key: &Block, block: &mut Block)
-    ensures { block.new ≡ enciphered key.now block.old }
+    ensures { block.new ≡ C.enciphered key.now block.old }
 {
     C::encipher(&C::prepare(key), block);
 }

@@ -120,7 +120,7 @@ fn published_wrapper(rt: HostRuntime) -> Result<(), Fail> {
     };
     assert!(rt; session == 1 && number == 0 && serial == 0x00fa_1234_5678 && tag == 0xaffe);
     assert!(rt; *associated == *knx::WRAPPER_START && *nonce == *knx::WRAPPER_NONCE);
-    assert!(rt; ciphertext == knx::WRAPPER_CIPHERTEXT && *mac == *knx::WRAPPER_MAC);
+    assert!(rt; ciphertext == knx::WRAPPER_CIPHERTEXT.as_slice() && *mac == *knx::WRAPPER_MAC);
     Ok(())
 }
 
@@ -143,7 +143,9 @@ fn parts_of_a_notice(rt: HostRuntime) -> Result<(), Fail> {
     };
     assert!(rt; time == 0x0102_0304_0506 && serial == 0x1112_1314_1516 && tag == 0x2122);
     assert!(rt;
-        associated == &frame[..6] && nonce == &frame[6..20] && *mac == *b"ABCDEFGHIJKLMNOP"
+        associated.as_slice() == &frame[..6]
+            && nonce.as_slice() == &frame[6..20]
+            && *mac == *b"ABCDEFGHIJKLMNOP"
     );
     Ok(())
 }

@@ -39,8 +39,8 @@ fn no_room(rt: HostRuntime) {
     let mut large = [0xee; 600];
     let sealed = seal_wrapper::<Knx<Aes128>>(key, 1, 0, 0, 0, &[0; 475], &mut large);
     assert!(rt; sealed == None && large[0] == 0xee);
-    assert!(rt; seal_notice::<Knx<Aes128>>(key, 0, 0, 0, &mut out[..35]) == None);
-    assert!(rt; refuse_session(&mut out[..7]) == None);
+    assert!(rt; seal_notice::<Knx<Aes128>>(key, 0, 0, 0, &mut [0xee; 35]) == None);
+    assert!(rt; refuse_session(&mut [0xee; 7]) == None);
     assert!(rt;
         refuse_session(&mut out) == Some(8) && out.starts_with(b"\x06\x10\x09\x52\x00\x08\x00\x00")
     );

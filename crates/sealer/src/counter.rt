@@ -19,7 +19,7 @@ fn counter_block(nonce: &Nonce, i: u8) -> Block
 
 // Counter block i, enciphered.
 pub fn mask_block<C: BlockCipher>(prepared: &C::Prepared, nonce: &Nonce, i: u8) -> Block
-    ensures { result ≡ does prepared.now (counter nonce.now i) }
+    ensures { result ≡ C.does prepared.now (counter nonce.now i) }
 {
     let mut block = counter_block(nonce, i);
     C::encipher(prepared, &mut block);
@@ -29,7 +29,7 @@ pub fn mask_block<C: BlockCipher>(prepared: &C::Prepared, nonce: &Nonce, i: u8) 
 // What masks a part of the text, counted from 0: counter block 0 is the MAC's.
 fn text_block<C: BlockCipher>(prepared: &C::Prepared, nonce: &Nonce, part: u8) -> Block
     requires { part < 255 }
-    ensures { result ≡ does prepared.now (counter nonce.now (part + 1)) }
+    ensures { result ≡ C.does prepared.now (counter nonce.now (part + 1)) }
 {
     mask_block::<C>(prepared, nonce, part + 1)
 }
@@ -37,8 +37,8 @@ fn text_block<C: BlockCipher>(prepared: &C::Prepared, nonce: &Nonce, part: u8) -
 // Masks one part: sixteen octets, or as many as are left.
 fn mask_part<C: BlockCipher>(prepared: &C::Prepared, nonce: &Nonce, text: &mut [u8], part: u8)
     requires { (16 * part ≤ length text.old) × (part < 255) }
-    ensures after { text.new ≡ take (16 * part) text.old ++ xor (drop (16 * part) text.old) (does prepared.now (counter nonce.now (part + 1))) }
-    ensures wide { length (does prepared.now (counter nonce.now (part + 1))) ≡ 16 }
+    ensures after { text.new ≡ take (16 * part) text.old ++ xor (drop (16 * part) text.old) (C.does prepared.now (counter nonce.now (part + 1))) }
+    ensures wide { length (C.does prepared.now (counter nonce.now (part + 1))) ≡ 16 }
 {
     let block = text_block::<C>(prepared, nonce, part);
     let at = 16 * part as usize;
@@ -48,7 +48,7 @@ fn mask_part<C: BlockCipher>(prepared: &C::Prepared, nonce: &Nonce, text: &mut [
 // Masks a text in place; a masked text is unmasked.
 pub fn mask<C: BlockCipher>(prepared: &C::Prepared, nonce: &Nonce, text: &mut [u8])
     requires { length text.old ≤ largest_telegram }
-    ensures { text.new ≡ masked (does prepared.now) nonce.now text.old }
+    ensures { text.new ≡ masked (C.does prepared.now) nonce.now text.old }
 {
     let parts = ((text.len() + 15) / 16) as u8;
     for part in 0..parts {

@@ -23,7 +23,7 @@ struct Chain {
 
 impl Chain {
     fn absorb<C: BlockCipher>(&mut self, prepared: &C::Prepared, x: u8)
-        ensures { (rest : List ℕ) → finish (does prepared.now) self.new.state self.new.at rest ≡ finish (does prepared.now) self.old.state self.old.at (x ∷ rest) }
+        ensures { (rest : List ℕ) → finish (C.does prepared.now) self.new.state self.new.at rest ≡ finish (C.does prepared.now) self.old.state self.old.at (x ∷ rest) }
     {
         let at = self.at;
         self.state[at] ^= x;
@@ -36,7 +36,7 @@ impl Chain {
     }
 
     fn absorb_all<C: BlockCipher>(&mut self, prepared: &C::Prepared, xs: &[u8])
-        ensures { (rest : List ℕ) → finish (does prepared.now) self.new.state self.new.at rest ≡ finish (does prepared.now) self.old.state self.old.at (xs.now ++ rest) }
+        ensures { (rest : List ℕ) → finish (C.does prepared.now) self.new.state self.new.at rest ≡ finish (C.does prepared.now) self.old.state self.old.at (xs.now ++ rest) }
     {
         for x in xs {
             self.absorb::<C>(prepared, *x);
@@ -45,7 +45,7 @@ impl Chain {
 
     // A block that is begun is filled up with zeros, which XOR nothing in.
     fn finish<C: BlockCipher>(self, prepared: &C::Prepared) -> Block
-        ensures { result ≡ finish (does prepared.now) self.state self.at [] }
+        ensures { result ≡ finish (C.does prepared.now) self.state self.at [] }
     {
         let mut state = self.state;
         if self.at != 0 {
@@ -68,7 +68,7 @@ fn raw<C: BlockCipher>(
     associated: &[u8],
     telegram: &[u8],
 ) -> Block
-    ensures { result ≡ raw_mac (does prepared.now) (covered nonce.now associated.now telegram.now) }
+    ensures { result ≡ raw_mac (C.does prepared.now) (covered nonce.now associated.now telegram.now) }
 {
     let mut chain = Chain {
         state: [0; 16],
@@ -84,7 +84,7 @@ fn raw<C: BlockCipher>(
 
 // A raw MAC under the mask that its nonce makes.
 fn masked_mac<C: BlockCipher>(prepared: &C::Prepared, nonce: &Nonce, raw: &Block) -> Block
-    ensures { result ≡ xor raw.now (does prepared.now (counter nonce.now 0)) }
+    ensures { result ≡ xor raw.now (C.does prepared.now (counter nonce.now 0)) }
 {
     let mut mac = *raw;
     xor_into(&mut mac, &mask_block::<C>(prepared, nonce, 0));
@@ -97,7 +97,7 @@ pub fn mac<C: BlockCipher>(
     associated: &[u8],
     telegram: &[u8],
 ) -> Block
-    ensures { result ≡ mac_of (does prepared.now) nonce.now associated.now telegram.now }
+    ensures { result ≡ mac_of (C.does prepared.now) nonce.now associated.now telegram.now }
 {
     let raw = raw::<C>(prepared, nonce, associated, telegram);
     masked_mac::<C>(prepared, nonce, &raw)
@@ -129,7 +129,7 @@ pub fn confirm<C: BlockCipher>(
     text: &mut [u8],
     given: &Block,
 ) -> bool
-    ensures answer { result ≡ same (mac_of (does prepared.now) nonce.now associated.now text.old) given.now }
+    ensures answer { result ≡ same (mac_of (C.does prepared.now) nonce.now associated.now text.old) given.now }
     ensures left { text.new ≡ (if result then text.old else replicate (length text.old) 0) }
 {
     let made = mac::<C>(prepared, nonce, associated, text);

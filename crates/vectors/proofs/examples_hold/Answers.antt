@@ -6,4 +6,4 @@ use Rattle.vectors.proofs.examples_hold.Goals as goal
 
 pub returns : goal.returns
 unfolding rounds schedule next_key shift_rows mix_columns sub inverse
-returns c = record { worked-example = refl; example-vector = refl }
+returns c = record { worked_example = refl; example_vector = refl }

@@ -3,4 +3,4 @@ use Rattle.cipher.proofs.aes.mix_columns.Goals as goal
 
 pub returns : goal.returns
 unfolding mix_columns
-returns c = c.mixed-columns.ensures
+returns c = c.mixed_columns.ensures

@@ -3,4 +3,4 @@ use Rattle.cipher.proofs.aes.next_key.Goals as goal
 
 pub returns : goal.returns
 unfolding next_key
-returns c = c.next-words.ensures
+returns c = c.next_words.ensures

@@ -3,4 +3,4 @@ use Rattle.cipher.proofs.aes.shift_rows.Goals as goal
 
 pub returns : goal.returns
 unfolding shift_rows
-returns c = c.shifted-rows.ensures
+returns c = c.shifted_rows.ensures

@@ -9,7 +9,7 @@ loop-i-preserved c =
     let before = c.args.s.now in
     let s = c.loop-i.s in
     let i = c.loop-i.i in
-    c.sub-at.ensures ∙ map_over_more sub before s i (get_or s i 0) (omega arith) c.loop-i.invariant (search rules)
+    c.sub_at.ensures ∙ map_over_more sub before s i (get_or s i 0) (omega arith) c.loop-i.invariant (search rules)
 
 pub returns : goal.returns
 returns c = search (rules, take_all, drop_all, append-nil)

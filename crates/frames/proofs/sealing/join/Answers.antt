@@ -8,4 +8,4 @@ returns c =
     let b = c.args.second.now in
     let into = c.args.into.now in
     let put = two a b into (length a) (length into) (omega arith) (omega arith) (omega arith) in
-    simp (c.copy-from-slice.ensures.after, c.copy-from-slice-2.ensures.after) put
+    simp (c.copy_from_slice.ensures.after, c.copy_from_slice-2.ensures.after) put

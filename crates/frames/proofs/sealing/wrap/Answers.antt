@@ -9,10 +9,10 @@ returns g c =
     let l = c.args.lead.now in
     let n = c.args.nonce.now in
     let out = c.args.out.now in
-    let a = c.copy-from-slice.new.self in
-    let b = c.copy-from-slice-2.new.self in
+    let a = c.copy_from_slice.new.self in
+    let b = c.copy_from_slice-2.new.self in
     let x = c.seal-mac.new.text in
-    let d = c.copy-from-slice-4.new.self in
+    let d = c.copy_from_slice-4.new.self in
     let la : length a ≡ 8 = search rules in
     let lb : 8 + length b ≡ 22 = search rules in
     let lx : 22 + length x ≡ 22 + length t = search rules in
@@ -20,7 +20,7 @@ returns g c =
     let hide = g.S.Sealer.ciphertext c.args.key.now n l in
     let mac = g.S.Sealer.mac c.args.key.now n l in
     let put = four a b x d out 8 22 (22 + length t) (length t + 38) la lb lx ld in
-    let parts = wrapping hide mac a b x d l n c.seal-mac.result t c.copy-from-slice-3.new.self
-    c.copy-from-slice.ensures.after c.copy-from-slice-2.ensures.after c.copy-from-slice-3.ensures.after
-    c.seal-mac.ensures.ciphertext c.seal-mac.ensures.mac c.copy-from-slice-4.ensures.after in
+    let parts = wrapping hide mac a b x d l n c.seal-mac.result t c.copy_from_slice-3.new.self
+    c.copy_from_slice.ensures.after c.copy_from_slice-2.ensures.after c.copy_from_slice-3.ensures.after
+    c.seal-mac.ensures.ciphertext c.seal-mac.ensures.mac c.copy_from_slice-4.ensures.after in
     record { length = search rules; out = put ∙ ap (λ (f : List ℕ). over f out) parts }

@@ -8,4 +8,4 @@ returns c =
     let b = c.args.second.now in
     let d = c.args.third.now in
     let put = three a b d c.args.out.now (length a) (length a + length b) (length a + length b + length d) (omega arith) (omega arith) (omega arith) in
-    record { length = search rules; out = simp (c.copy-from-slice.ensures.after, c.copy-from-slice-2.ensures.after, c.copy-from-slice-3.ensures.after) put }
+    record { length = search rules; out = simp (c.copy_from_slice.ensures.after, c.copy_from_slice-2.ensures.after, c.copy_from_slice-3.ensures.after) put }

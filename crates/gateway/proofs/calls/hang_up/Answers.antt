@@ -7,6 +7,6 @@ pub returns : goal.returns
 returns g c =
     let call = hang_up c.args.session (lending c.args.out.now c.args.work.now) in
     record {
-      ready = ready_after g.S.Sealer.meaning call _ _ _ _ _ c.hang-up.ensures.rule c.hang-up.ensures.work c.requires tt;
-      promise = record { rule = obeys g.S.Sealer.meaning call _ _ _ _ _ c.hang-up.ensures.rule c.hang-up.ensures.work; law = lawful g.S.Sealer.meaning call _ _ _ _ _ c.hang-up.ensures.rule c.hang-up.ensures.work c.requires tt };
+      ready = ready_after g.S.Sealer.meaning call _ _ _ _ _ c.hang_up.ensures.rule c.hang_up.ensures.work c.requires tt;
+      promise = record { rule = obeys g.S.Sealer.meaning call _ _ _ _ _ c.hang_up.ensures.rule c.hang_up.ensures.work; law = lawful g.S.Sealer.meaning call _ _ _ _ _ c.hang_up.ensures.rule c.hang_up.ensures.work c.requires tt };
     }

@@ -6,7 +6,7 @@ use Rattle.gateway.proofs.runs.run.Goals as goal
 pub loop-call-preserved : goal.loop-call-preserved
 loop-call-preserved g c =
     one_more g.S.Sealer.meaning c.loop-call.gateway.core c.step-event.new.gateway.core c.args.calls.now c.loop-call.call-index _ _ c.step-event.result c.step-event.ensures
-    c.in-Ok.gateway.core.settings _ c.push.result c.loop-call.invariant c.loop-call-test.true (sym c.if-is-err.ensures.value) c.push.ensures.items
+    c.in-Ok.gateway.core.settings _ c.push.result c.loop-call.invariant c.loop-call-test.true (sym c.if-is_err.ensures.value) c.push.ensures.items
 
 pub returns : goal.returns
 returns g c =

@@ -2,4 +2,4 @@ use Rattle.gateway.proofs.Following.{follows}
 use Rattle.gateway.proofs.runs.step.Goals as goal
 
 pub returns : goal.returns
-returns g c = follows g.S.Sealer.meaning c.args.call _ _ _ _ c.carry-out-answer.new.work _ _ c.carry-out-answer.ensures c.timer-before.ensures c.timer-after.ensures
+returns g c = follows g.S.Sealer.meaning c.args.call _ _ _ _ c.carry_out-answer.new.work _ _ c.carry_out-answer.ensures c.timer-before.ensures c.timer-after.ensures

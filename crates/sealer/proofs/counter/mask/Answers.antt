@@ -10,7 +10,7 @@ loop-part-preserved g c =
     let part = c.loop-part.part in
     let parts = (length c.args.text.now + 15) / 16 in
     let fewer : suc (parts - (part + 1)) ≡ parts - part = omega arith in
-    mask_more f nonce part (parts - (part + 1)) c.loop-part.text c.mask-part.new.text (omega arith) c.mask-part.ensures.wide c.mask-part.ensures.after
+    mask_more f nonce part (parts - (part + 1)) c.loop-part.text c.mask_part.new.text (omega arith) c.mask_part.ensures.wide c.mask_part.ensures.after
     ∙ ap (λ n. finished f nonce part n c.loop-part.text) fewer
     ∙ c.loop-part.invariant
 

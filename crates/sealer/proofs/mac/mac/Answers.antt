@@ -8,4 +8,4 @@ pub returns : goal.returns
 unfolding mac_of
 returns g c =
     let mask = g.C.BlockCipher.does c.args.prepared.now (counter c.args.nonce.now 0) in
-    c.masked-mac.ensures ∙ ap (λ (r : List ℕ). xor r mask) c.raw-raw.ensures
+    c.masked_mac.ensures ∙ ap (λ (r : List ℕ). xor r mask) c.raw-raw.ensures

@@ -17,13 +17,13 @@ returns g c =
     let n = c.args.nonce.now in
     let d = c.args.associated.now in
     let t = c.args.telegram.now in
-    let a = c.length-octets.result in
-    let b = c.length-octets-2.result in
+    let a = c.length_octets.result in
+    let b = c.length_octets-2.result in
     c.finish.ensures
-    ∙ c.absorb-all-5.ensures []
-    ∙ c.absorb-all-4.ensures (t ++ [])
-    ∙ c.absorb-all-3.ensures (d ++ (t ++ []))
-    ∙ c.absorb-all-2.ensures (b ++ (d ++ (t ++ [])))
-    ∙ c.absorb-all.ensures (a ++ (b ++ (d ++ (t ++ []))))
-    ∙ ap (finish f (replicate 16 0) 0) (parts n a b d t _ _ c.length-octets.ensures c.length-octets-2.ensures)
+    ∙ c.absorb_all-5.ensures []
+    ∙ c.absorb_all-4.ensures (t ++ [])
+    ∙ c.absorb_all-3.ensures (d ++ (t ++ []))
+    ∙ c.absorb_all-2.ensures (b ++ (d ++ (t ++ [])))
+    ∙ c.absorb_all.ensures (a ++ (b ++ (d ++ (t ++ []))))
+    ∙ ap (finish f (replicate 16 0) 0) (parts n a b d t _ _ c.length_octets.ensures c.length_octets-2.ensures)
     ∙ raw_is f (n ++ (octets_of 2 (length t) ++ (octets_of 2 (length d) ++ (d ++ t))))

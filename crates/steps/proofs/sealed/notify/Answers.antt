@@ -6,8 +6,8 @@ pub returns : goal.returns
 returns g c =
     let out = c.args.out.now in
     let long = notice_length g.S.Sealer.meaning c.args.key.now c.told-key c.args.time c.args.serial c.args.tag in
-    let is = c.seal-notice.ensures.length in
+    let is = c.seal_notice.ensures.length in
     record {
-      length = put_length _ _ out long (omega (arith, c.requires.room)) _ is _ _ c.ok-or.ensures.value;
-      out = put_front _ _ out long (omega (arith, c.requires.room)) _ is _ c.seal-notice.ensures.out;
+      length = put_length _ _ out long (omega (arith, c.requires.room)) _ is _ _ c.ok_or.ensures.value;
+      out = put_front _ _ out long (omega (arith, c.requires.room)) _ is _ c.seal_notice.ensures.out;
     }

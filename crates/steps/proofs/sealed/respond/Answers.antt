@@ -6,8 +6,8 @@ pub returns : goal.returns
 returns g c =
     let out = c.args.out.now in
     let long = response_length g.S.Sealer.meaning c.args.key.now c.told-key c.args.session c.args.x.now c.args.y.now c.told-y in
-    let is = c.seal-response.ensures.length in
+    let is = c.seal_response.ensures.length in
     record {
-      length = put_length _ _ out long (omega (arith, c.requires.room)) _ is _ _ c.ok-or.ensures.value;
-      out = put_front _ _ out long (omega (arith, c.requires.room)) _ is _ c.seal-response.ensures.out;
+      length = put_length _ _ out long (omega (arith, c.requires.room)) _ is _ _ c.ok_or.ensures.value;
+      out = put_front _ _ out long (omega (arith, c.requires.room)) _ is _ c.seal_response.ensures.out;
     }

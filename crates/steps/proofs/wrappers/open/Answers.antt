@@ -3,4 +3,4 @@ use Rattle.steps.proofs.wrappers.open.Goals as goal
 
 pub returns : goal.returns
 returns g c = opens _ _ c.requires.small c.requires.room _ (λ t e. opened_long g.S.Sealer.meaning _ _ _ _ _ t e) _ _ _
-    c.open-wrapper.ensures.length c.open-wrapper.ensures.area c.ok-or.ensures.value
+    c.open_wrapper.ensures.length c.open_wrapper.ensures.area c.ok_or.ensures.value

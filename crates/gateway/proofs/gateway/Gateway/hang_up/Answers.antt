@@ -5,4 +5,4 @@ pub hang-up-requires : goal.hang-up-requires
 hang-up-requires g c = ready c.args.self.now.core c.args.self.now.ready
 
 pub invariant-of-self : goal.invariant-of-self
-invariant-of-self g c = (∣ c.hang-up.ensures.ready ∣₁, tt)
+invariant-of-self g c = (∣ c.hang_up.ensures.ready ∣₁, tt)

@@ -4,6 +4,6 @@ use Rattle.slots.proofs.table.Table.first_lapsed.Goals as goal
 
 pub returns : goal.returns
 returns c = record {
-  lapsed = lapses c.args.self.now.rows c.least-lapsed.result c.requires c.least-lapsed.ensures.small c.least-lapsed.ensures.place;
+  lapsed = lapses c.args.self.now.rows c.least_lapsed.result c.requires c.least_lapsed.ensures.small c.least_lapsed.ensures.place;
   within = search rules;
 }

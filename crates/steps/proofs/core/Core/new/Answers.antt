@@ -12,5 +12,5 @@ returns c =
     record {
       new = is;
       kept = search rules;
-      ready = record { proper = c.are-proper.ensures; accepted = c.requires; apart = c.new-2.ensures.apart; fit = subst Fit (sym is) (fit-new set c.requires) };
+      ready = record { proper = c.are_proper.ensures; accepted = c.requires; apart = c.new-2.ensures.apart; fit = subst Fit (sym is) (fit-new set c.requires) };
     }
