@@ -1,7 +1,7 @@
 // Frames: what arrives is read in place, and what goes out is written into a lent buffer.
 #![tactic(auto)]
 
-mod headers;
+pub mod headers;
 pub mod opening;
 pub mod reading;
 pub mod sealing;

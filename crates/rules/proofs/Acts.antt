@@ -22,11 +22,12 @@ use Rattle.rules.specs.Model.{Model, Session, put}
 use Rattle.rules.specs.Rules.{act, deliver, end, on, opened_session, own_wrapper, sign, tell, wrapper_of}
 use Rattle.rules.specs.Runs.{lent, noted}
 use Rattle.rules.specs.Sessions.{above, by_hash, by_parts, lapsed, opened_by, signs_in}
+use Rattle.rules.specs.Fit.{Fit, GoodSession}
 use Rattle.rules.proofs.Facts.{cond_case, no_delivery, none_some, some_some, take_over}
 use Rattle.rules.proofs.Frames.{cipher, code, lead, signed_frame, status_back, wrapper_back}
 use Rattle.rules.proofs.Moves.{secrets}
 use Rattle.rules.proofs.Steps as step
-use Rattle.rules.proofs.Steps.{Fine, Fit, GoodSession, refused}
+use Rattle.rules.proofs.Steps.{Fine, refused}
 
 -- what a session authenticate that signs in holds
 signed_parts : (set : Settings) (M : Meaning) (s : Session) (o : Option (ℕ × List ℕ)) (u : ℕ) → by_parts set M s o ≡ Some u

@@ -1,8 +1,9 @@
 -- Small facts on options, tests and lists. Assumes nothing.
-use Rattle.std.proofs.Common.{◌≡◌, ℕ, ◌≤◌, Bool, true, false, cond, List, [], ◌∷◌, length, take, drop, Some, None, Ok, Err, Option, Result, refl, ap, arith}
+use Rattle.std.proofs.Common.{◌≡◌, ℕ, suc, ◌<◌, ◌≤◌, Bool, true, false, cond, List, [], ◌∷◌, length, get_or, take, drop, Some, None, Ok, Err, Option, Result, refl, ap, arith}
 use Rattle.std.proofs.lemmas.List.{take_at}
 use Rattle.std.proofs.lemmas.Bool.{both_ways}
 use Rattle.std.specs.List.{AllByRecursion}
+use Rattle.octets.specs.Laws.{Octets}
 use Rattle.octets.specs.Runs.{over}
 use Rattle.rules.specs.declared.answers.Answer.{Answer}
 use Rattle.rules.specs.declared.answers.Answer.TheVariants.{Delivered}
@@ -41,3 +42,8 @@ no_delivery r h n count user size e = both_ways (delivered r) h (ap delivered e)
 abbrev pub Reached : Option ℕ → ℕ → Type 0
 Reached None j = ⊥
 Reached (Some k) j = j ≤ k
+
+-- a list whose numbers are octets at every place
+pub all_octets : (xs : List ℕ) → ((i : ℕ) → get_or xs i 0 < 256) → Octets xs
+all_octets [] f = tt
+all_octets (x ∷ xs) f = (f 0, all_octets xs (λ i. f (suc i)))

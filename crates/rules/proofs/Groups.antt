@@ -19,11 +19,12 @@ use Rattle.rules.specs.Meaning.{Meaning}
 use Rattle.rules.specs.Model.{Model}
 use Rattle.rules.specs.Rules.{deliver, group_good, group_opened, group_wrapper, noticed}
 use Rattle.rules.specs.Runs.{noted}
+use Rattle.rules.specs.Fit.{Fit}
 use Rattle.rules.proofs.Counting.{counted_same}
 use Rattle.rules.proofs.Facts.{cond_case, no_delivery, none_some, ok_ok, some_some, take_over}
 use Rattle.rules.proofs.Frames.{notice_read, wrapper_read}
 use Rattle.rules.proofs.Moves.{Still, aside}
-use Rattle.rules.proofs.Steps.{Fine, Fit, opens_none, refused}
+use Rattle.rules.proofs.Steps.{Fine, opens_none, refused}
 
 -- the gateway after a frame of the group: the timer is the larger of the two times
 record Heard (g : Model) (time : ℕ) (h : Model) : Type 0 where
@@ -41,13 +42,13 @@ wanting_fit (Some w) serial tag s t f v e = f v e
 module _ (set : Settings) (g : Model) (time serial tag lot : ℕ) (f : Fit g) (tb : time < 2 ^ 48) (sb : serial < 2 ^ 48) (gb : tag < 2 ^ 16) where
   heard_is : Heard g time (heard set g time serial tag lot)
   heard_is = cond_case (Heard g time) (ltb g.timer time) (follow set g time lot) _
-      (λ e. record { timer_is = omega (arith, ltb-true g.timer time e); sent_is = refl; sessions_are = refl; held_is = refl; fit = record { timer = omega arith; sessions = f.sessions; wanted = λ w q. absurd (none_some w q) } })
+      (λ e. record { timer_is = omega (arith, ltb-true g.timer time e); sent_is = refl; sessions_are = refl; held_is = refl; fit = record { timer = omega arith; sessions = f.sessions; wanted = λ w q. absurd (none_some w q); sent = f.sent } })
       (λ late. let le = ltb-false g.timer time late in
       cond_case (Heard g time) (within g.timer (sync set) time) (follow set g g.timer lot) _
-      (λ _. record { timer_is = omega arith; sent_is = refl; sessions_are = refl; held_is = refl; fit = record { timer = f.timer; sessions = f.sessions; wanted = λ w q. absurd (none_some w q) } })
+      (λ _. record { timer_is = omega arith; sent_is = refl; sessions_are = refl; held_is = refl; fit = record { timer = f.timer; sessions = f.sessions; wanted = λ w q. absurd (none_some w q); sent = f.sent } })
       (λ _. cond_case (Heard g time) (within g.timer (latency set) time) g (want_reply set g serial tag lot)
       (λ _. record { timer_is = omega arith; sent_is = refl; sessions_are = refl; held_is = refl; fit = f })
-      (λ _. record { timer_is = omega arith; sent_is = refl; sessions_are = refl; held_is = refl; fit = record { timer = f.timer; sessions = f.sessions; wanted = wanting_fit g.wanted serial tag sb gb f.wanted } })))
+      (λ _. record { timer_is = omega arith; sent_is = refl; sessions_are = refl; held_is = refl; fit = record { timer = f.timer; sessions = f.sessions; wanted = wanting_fit g.wanted serial tag sb gb f.wanted; sent = f.sent } })))
 
 module _ (set : Settings) (M : Meaning) (g : Model) (frame offer : List ℕ) (lot : ℕ) (b : Buffers) (octets : Octets frame) (f : Fit g) where
   abbrev c : Call

@@ -1,5 +1,5 @@
 -- Every run keeps the law. Assumes nothing.
-use Rattle.std.proofs.Common.{◌≡◌, ℕ, zero, suc, ◌+◌, min, true, false, ◌&&◌, eqb, ltb, leb, ◌≢◌, ◌⊎◌, List, [], ◌∷◌, map, Some, None, Ok, Err, Option, Result, sym, refl, ap, ◌∙◌, subst, ⊎_elim, zero-le, arith}
+use Rattle.std.proofs.Common.{◌≡◌, ℕ, zero, suc, ◌+◌, ◌<◌, min, true, false, ◌&&◌, eqb, ltb, leb, ◌≢◌, ◌⊎◌, List, [], ◌∷◌, map, Some, None, Ok, Err, Option, Result, sym, refl, ap, ◌∙◌, subst, ⊎_elim, zero-le, arith}
 use Rattle.std.proofs.lemmas.Bool.{and_parts, eqb-true, ltb-true}
 use Rattle.std.specs.List.{AllByRecursion}
 use Rattle.octets.specs.Laws.{Octets}
@@ -17,13 +17,21 @@ use Rattle.rules.specs.Model.{Model, new}
 use Rattle.rules.specs.Rules.{arrived, next, roomy, unread, with_room}
 use Rattle.rules.specs.Runs.{Event, event, history, state}
 use Rattle.rules.specs.Sessions.{first_lapsed}
+use Rattle.rules.specs.Fit.{Fit}
 use Rattle.rules.proofs.Acts.{wrapper_fine}
 use Rattle.rules.proofs.Counting.{Counted, count}
 use Rattle.rules.proofs.Facts.{Reached, cond_case, every_map, none_some}
 use Rattle.rules.proofs.Groups.{group_wrapper_fine, notice_fine}
 use Rattle.rules.proofs.Moves.{Lives, Still, Tied, spoken, tied_kept}
 use Rattle.rules.proofs.Others.{announce_fine, due_fine, hang_up_fine, pass_fine, request_fine, send_fine}
-use Rattle.rules.proofs.Steps.{Fine, Fit, refused}
+use Rattle.rules.proofs.Steps.{Fine, refused}
+
+starts : (set : Settings) → acceptable set ≡ true → set.start < numbers
+starts set ok = ltb-true set.start numbers (and_parts (leb (sync set) (latency set) && leb (latency set) 10000) (ltb set.start numbers) ok).1
+
+pub fit_new : (set : Settings) → acceptable set ≡ true → Fit (new set)
+fit_new set ok = record
+    { timer = omega (arith, starts set ok); sessions = λ n s q. absurd (none_some s q); wanted = λ w q. absurd (none_some w q); sent = λ x q. absurd (none_some x q) }
 
 module _ (set : Settings) (M : Meaning) (proper : ProperSettings set) where
   -- EVERY CALL
@@ -107,6 +115,9 @@ module _ (set : Settings) (M : Meaning) (proper : ProperSettings set) where
       (λ v. (v.l, v.is, every_map v.l.since (λ d a r. omega (arith, a count r, v.says.seals count p)) v.sound.own))
       (all n nz)
 
+  pub fit_next : (g : Model) (c : Call) → Fit g → ProperCall c → Fit (next set M g c).to
+  fit_next g c f p = (fine g c f p).fit
+
   -- WHAT EVERY CALL KEEPS
 
   pub record Inv (g : Model) (h : List Event) : Type 0 where
@@ -124,13 +135,13 @@ module _ (set : Settings) (M : Meaning) (proper : ProperSettings set) where
 
   pub inv_new : acceptable set ≡ true → Inv (new set) []
   inv_new ok =
-      let start = ltb-true set.start numbers (and_parts (leb (sync set) (latency set) && leb (latency set) 10000) (ltb set.start numbers) ok).1 in
+      let start = starts set ok in
       record {
         state_is = refl;
         timer_is = omega arith;
         sent_is = tt;
         tied = λ n nz. tt;
-        fit = record { timer = omega arith; sessions = λ n s q. absurd (none_some s q); wanted = λ w q. absurd (none_some w q) };
+        fit = fit_new set ok;
         counted = record { is = none_counted session_numbers 0; few = zero-le };
         laws = tt;
       }

@@ -16,6 +16,7 @@ use Rattle.rules.specs.declared.answers.Answer.TheVariants.{Nothing, Delivered, 
 use Rattle.rules.specs.declared.answers.Refusal.TheVariants as no
 use Rattle.rules.specs.declared.settings.Settings.{Settings}
 use Rattle.rules.specs.Calls.{Buffers, Call, Step, announce, arrive, due, hang_up, pass, quietly, send}
+use Rattle.rules.specs.Fit.{Fit, GoodSession}
 use Rattle.rules.specs.GroupTime.{next_time, notice_serial, notice_tag, sent_at, tag_of}
 use Rattle.rules.specs.Law.{ProperSettings, arriving, came_in, count_of, ending, ends, given, group_time, is_response, milliseconds, octets_out, of_session, opens, opens_by, opens_with, readable, time_out, went_out}
 use Rattle.rules.specs.Limits.{last_time, numbers, session_numbers, slots}
@@ -30,7 +31,7 @@ use Rattle.rules.proofs.Counting.{Counted, count, count_same, counted_put, count
 use Rattle.rules.proofs.Facts.{Reached, cond_case, no_delivery, none_some, some_some, take_over}
 use Rattle.rules.proofs.Frames.{notice_back, response_long, response_unread, status_back, wrapper_back}
 use Rattle.rules.proofs.Moves.{Moves, Says, Still, about, absent, aside, goes, secrets, starts, stops}
-use Rattle.rules.proofs.Steps.{Clocks, Fine, Fit, GoodSession, fit_put, idle, opens_none, refused}
+use Rattle.rules.proofs.Steps.{Clocks, Fine, fit_put, idle, opens_none, refused}
 
 time_later : (t : ℕ) (o : Option ℕ) → t ≤ next_time t o
 time_later t None = omega arith
@@ -129,7 +130,7 @@ module _ (set : Settings) (M : Meaning) (proper : ProperSettings set) where
     pub pass_fine : Fine set M g (pass ms) r
     pass_fine = record {
       moved = λ n nz. waits n (g.sessions n);
-      fit = record { timer = omega arith; sessions = λ n s q. waited_fit n (g.sessions n) refl s q; wanted = f.wanted };
+      fit = record { timer = omega arith; sessions = λ n s q. waited_fit n (g.sessions n) refl s q; wanted = f.wanted; sent = f.sent };
       clocks = record {
         ticks = refl;
         later = λ x q. absurd (none_some x q);
@@ -260,7 +261,7 @@ module _ (set : Settings) (M : Meaning) (proper : ProperSettings set) where
       moved = λ n nz. aside set M g c n r sessions_are
           (record { no_in = ap (given (of_session n)) no_in; no_out = ap (given (of_session n)) shown ∙ aside_from n nz; no_delivery = λ k user size q. no_delivery n k user size q })
           (opens_none (is_response r.answer) (opens_by n c) (unopened n));
-      fit = record { timer = omega arith; sessions = λ n s q. f.sessions n s (sym (ap (λ h. h n) sessions_are) ∙ q); wanted = wanted_fit };
+      fit = record { timer = omega arith; sessions = λ n s q. f.sessions n s (sym (ap (λ h. h n) sessions_are) ∙ q); wanted = wanted_fit; sent = λ x q. let same = some_some time x (sym sent_is ∙ q) in omega arith };
       clocks = record {
         ticks = rw (ap (given group_time) no_in, out_is, still_time) (timer_is ∙ omega (arith, f.timer, time_later g.timer g.sent));
         later = λ x q j h. let same = some_some time x (sym out_is ∙ q) in omega (arith, time_above g.timer g.sent j h);

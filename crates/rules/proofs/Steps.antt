@@ -11,6 +11,7 @@ use Rattle.rules.specs.declared.answers.Answer.TheVariants.{Delivered}
 use Rattle.rules.specs.declared.answers.Refusal.{Refusal}
 use Rattle.rules.specs.declared.settings.Settings.{Settings}
 use Rattle.rules.specs.Calls.{Buffers, Call, Step, arrive, refuse}
+use Rattle.rules.specs.Fit.{Fit, GoodSession}
 use Rattle.rules.specs.Law.{Genuine, GenuineInGroup, Secrets, SignsIn, Window, Wrapped, accepted, arriving, came_in, closing, count_of, ending, ends, given, group_time, has, held, is_response, kind_held, larger, leaving, milliseconds, octets_out, of_session, opens, opens_by, opens_with, readable, taken, time_in, time_out, went_out}
 use Rattle.rules.specs.Limits.{last_time}
 use Rattle.rules.specs.Meaning.{Meaning}
@@ -22,22 +23,8 @@ use Rattle.rules.proofs.Facts.{Reached, no_delivery, none_some, ok_ok, some_some
 use Rattle.rules.proofs.Frames.{wrapper_read}
 use Rattle.rules.proofs.Moves.{Moved, Moves, Says, Still, about, above_reached, aside, goes, secrets, stops}
 
--- a session whose wrappers can be written and read
-pub record GoodSession (n : ℕ) (s : Session) : Type 0 where
-  pub nonzero : n ≢ 0
-  pub numbered : n < 2 ^ 16
-  pub keyed : length s.key ≡ 16
-  pub countable : s.own ≤ last_time
-  -- nothing was sent before the sign-in
-  pub fresh : s.user ≡ None → s.own ≡ 0
-
-pub record Fit (g : Model) : Type 0 where
-  pub timer : g.timer ≤ last_time
-  pub sessions : (n : ℕ) (s : Session) → g.sessions n ≡ Some s → GoodSession n s
-  pub wanted : (w : ℕ × ℕ) → g.wanted ≡ Some w → (w.0 < 2 ^ 48) × (w.1 < 2 ^ 16)
-
 pub fit_put : (g : Model) (n : ℕ) (o : Option Session) → Fit g → ((s : Session) → o ≡ Some s → GoodSession n s) → Fit (put g n o)
-fit_put g n o f h = record { timer = f.timer; sessions = go; wanted = f.wanted } where
+fit_put g n o f h = record { timer = f.timer; sessions = go; wanted = f.wanted; sent = f.sent } where
   go : (m : ℕ) (s : Session) → cond (eqb m n) o (g.sessions m) ≡ Some s → GoodSession m s
   go m s = at (eqb m n) refl where
     at : (b : Bool) → eqb m n ≡ b → cond b o (g.sessions m) ≡ Some s → GoodSession m s

@@ -1,5 +1,5 @@
 -- The number and the values of each answer and refusal. Assumes nothing.
-use Rattle.std.specs.Prelude.{ℕ, List, [], ◌∷◌}
+use Rattle.std.specs.Prelude.{ℕ, List, [], ◌∷◌, Ok, Err, Result}
 use Rattle.rules.specs.declared.answers.Answer.{Answer}
 use Rattle.rules.specs.declared.answers.Answer.TheVariants.{Nothing, Delivered, Frame, Sealed, Taken}
 use Rattle.rules.specs.declared.answers.Refusal.{Refusal}
@@ -36,3 +36,12 @@ refusal_number SignIn = 11
 refusal_number NumbersSpent = 12
 refusal_number TimesSpent = 13
 refusal_number Settings = 14
+
+-- what the host is told: the number and the values of an answer, or the number of a refusal
+pub data Told : Type 0 where
+  answered : (number : ℕ) (values : List ℕ) → Told
+  refused : (number : ℕ) → Told
+
+abbrev pub told : Result Answer Refusal → Told
+told (Ok a) = answered (answer_number a) (answer_values a)
+told (Err why) = refused (refusal_number why)

@@ -3,6 +3,7 @@ pub mod Limits
 pub mod Meaning
 pub mod Making
 pub mod Model
+pub mod Fit
 pub mod Calls
 pub mod GroupTime
 pub mod Sessions

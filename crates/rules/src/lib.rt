@@ -3,6 +3,7 @@
 #![tactic(auto)]
 
 pub mod answers;
+pub mod limits;
 pub mod settings;
 
 ghost use Rattle.rules.specs.Law.{RunsKeepTheLaw};

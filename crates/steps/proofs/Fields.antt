@@ -1,11 +1,24 @@
 -- Facts about a gateway's fields. Assumes nothing.
-use Rattle.std.proofs.Common.{◌≡◌, ℕ, ◌<◌, ◌≤◌, IfSome, Some, None, Option, sym, refl, ◌∙◌, arith}
+use Rattle.std.proofs.Common.{◌≡◌, ℕ, ◌<◌, ◌≤◌, IfSome, true, false, List, Some, None, Err, Option, Result, sym, refl, ap, ◌∙◌, subst, arith}
+use Rattle.std.proofs.lemmas.Bool.{cond-true, cond-false}
+use Rattle.octets.specs.Runs.{over}
 use Rattle.clock.specs.Times.{Small}
+use Rattle.frames.specs.Reading.{reading}
+use Rattle.frames.specs.declared.reading.Unreadable.{Unreadable}
+use Rattle.rules.specs.Calls.{Step, due, refuse}
 use Rattle.rules.specs.Limits.{last_time, slots}
+use Rattle.rules.specs.Meaning.{Meaning}
+use Rattle.rules.specs.Rules.{arrived, due_now, end_lapsed, unread}
+use Rattle.rules.specs.Sessions.{first_lapsed}
+use Rattle.rules.specs.declared.answers.Answer.{Answer}
+use Rattle.rules.specs.declared.answers.Refusal.{Refusal}
+use Rattle.rules.specs.declared.answers.Refusal.TheVariants.{Buffers}
 use Rattle.slots.proofs.Ruled.{lapsed_is_the_rule}
 use Rattle.slots.specs.Lapses as rows
-use Rattle.steps.specs.Cores.{model}
-use Rattle.steps.specs.Living.{Lapses}
+use Rattle.steps.specs.Cores.{Becomes, Does, model}
+use Rattle.steps.specs.Living.{Lapsed, Lapses}
+use Rattle.steps.specs.Buffers.{has_room, lending}
+use Rattle.steps.specs.Steps.{arriving, carrying, ending, falling_due, notifying, number_at}
 use Rattle.steps.specs.declared.core.Core.{Core}
 
 -- which session lapsed, by its place
@@ -16,3 +29,32 @@ first_lapsed_at c (Some i) l w = record { within = w; is = sym (lapsed_is_the_ru
 pub small_sent : (o : Option ℕ) → ((x : ℕ) → o ≡ Some x → x ≤ last_time) → Small o
 small_sent None f = tt
 small_sent (Some x) f = omega (arith, f x refl)
+
+-- two steps that are the same at a gateway do the same there
+pub does_same : (s t : Core → Step) (before after : Core) (answer : Result Answer Refusal) (out out' : List ℕ)
+    → s before ≡ t before → Does s before after answer out out' → Does t before after answer out out'
+does_same s t before after answer out out' e d =
+    record
+    { answers = d.answers ∙ ap (λ (r : Step). r.answer) e; goes = subst (λ (r : Step). Becomes r.to before after) e d.goes; writes = d.writes ∙ ap (λ (r : Step). over r.written out) e }
+
+module _ (M : Meaning) (c : Core) where
+  -- a frame that cannot be read is refused
+  pub unread_is : (frame offer : List ℕ) (lot : ℕ) (why : Unreadable) (refusal : Refusal)
+      → refusal ≡ unread c.settings M why → Err why ≡ reading frame → refuse (model c) refusal ≡ arriving M frame offer lot c
+  unread_is frame offer lot why refusal e rd = ap (refuse (model c)) e ∙ ap (arrived c.settings M (model c) offer lot) rd
+
+  -- the session that is due, by its place
+  pub lapsed_due : (at lot : ℕ) → Lapsed c at → ending M at 3 c ≡ falling_due M lot c
+  lapsed_due at lot l =
+      sym (ap (due_now c.settings M (model c) lot) l.is ∙ ap (end_lapsed c.settings M (model c) (number_at c at)) l.session)
+
+  -- with none lapsed, a timer notify may be due
+  pub none_due : (lot : ℕ) → first_lapsed (model c) ≡ None → notifying M lot c ≡ falling_due M lot c
+  none_due lot e = sym (ap (due_now c.settings M (model c) lot) e)
+
+  -- due, where there is room and where there is none
+  pub due_with_room : (lot : ℕ) (out work : List ℕ) → has_room out work ≡ true → falling_due M lot c ≡ carrying M (due lot (lending out work)) c
+  due_with_room lot out work h = sym (cond-true (has_room out work) (falling_due M lot c) (refuse (model c) Buffers) h)
+
+  pub due_without_room : (lot : ℕ) (out work : List ℕ) → has_room out work ≡ false → refuse (model c) Buffers ≡ carrying M (due lot (lending out work)) c
+  due_without_room lot out work h = sym (cond-false (has_room out work) (falling_due M lot c) (refuse (model c) Buffers) h)

@@ -10,7 +10,7 @@ use Rattle.frames.specs.Sealing.{exchange_data, sealed_notice, sealed_response, 
 use Rattle.frames.specs.Writing.{left, nonce, notice_lead, response_lead, room, wrapper_lead}
 use Rattle.rules.specs.declared.answers.Refusal.{Refusal}
 use Rattle.sealer.specs.Limits.{largest_telegram}
-use Rattle.sealer.specs.Sealing.{Meaning}
+use Rattle.rules.specs.Meaning.{Meaning}
 
 nonce_length : (count serial tag : ℕ) → length (nonce count serial tag) ≡ 14
 unfolding nonce

@@ -10,7 +10,7 @@ use Rattle.rules.proofs.Facts.{take_over}
 use Rattle.rules.specs.declared.answers.Refusal.{Refusal}
 use Rattle.rules.specs.declared.answers.Refusal.TheVariants as no
 use Rattle.sealer.specs.Limits.{largest_telegram}
-use Rattle.sealer.specs.Sealing.{Meaning}
+use Rattle.rules.specs.Meaning.{Meaning}
 use Rattle.steps.specs.Opened.{Opens}
 
 module _ (c work : List ℕ) (small : length c ≤ largest_telegram) (room : largest_frame ≤ length work) where

@@ -1,15 +1,15 @@
 -- The rules at the fields of a gateway. A session is given by its place in the table, or by its number. Assumes nothing.
 use Rattle.std.specs.Prelude.{ℕ, ◌+◌, ◌-◌, min, List, [], Some, None, Option}
 use Rattle.frames.specs.Reading.{reading}
-use Rattle.frames.specs.declared.reading.Notice.{Notice}
-use Rattle.frames.specs.declared.reading.Wrapper.{Wrapper}
+use Rattle.steps.specs.declared.received.Notice.{Notice}
+use Rattle.steps.specs.declared.received.Wrapper.{Wrapper}
 use Rattle.frames.specs.Telegrams.{telegram_kind}
 use Rattle.rules.specs.Calls.{Call, Step}
 use Rattle.rules.specs.Limits.{last_time}
 use Rattle.rules.specs.Model.{Model, Session, put}
 use Rattle.rules.specs.Rules as rule
 use Rattle.rules.specs.Sessions.{all_waited, first_lapsed, opened_by, signs_in}
-use Rattle.sealer.specs.Sealing.{Meaning}
+use Rattle.rules.specs.Meaning.{Meaning}
 use Rattle.slots.specs.Rows.{held_rows, look_up, row, session_of}
 use Rattle.slots.specs.declared.slot.Slot.{Slot}
 use Rattle.steps.specs.Cores.{model}

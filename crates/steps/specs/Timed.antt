@@ -8,7 +8,7 @@ use Rattle.rules.specs.Making.{own_serial}
 use Rattle.rules.specs.declared.answers.Refusal.{Refusal}
 use Rattle.rules.specs.declared.answers.Refusal.TheVariants as no
 use Rattle.rules.specs.declared.settings.Settings.{Settings}
-use Rattle.sealer.specs.Sealing.{Meaning}
+use Rattle.rules.specs.Meaning.{Meaning}
 
 module _ (M : Meaning) (set : Settings) (time lot : ℕ) (t : List ℕ) where
   abbrev pub timed_wrapper : List ℕ

@@ -1,4 +1,5 @@
 // What a telegram does that opened in a session.
+ghost use Rattle.rules.specs.Meaning.{meaning};
 ghost use Rattle.std.specs.Prelude.{◌≡◌, ◌+◌, ◌<◌, ◌≤◌, length, Some};
 ghost use Rattle.frames.specs.Limits.{largest_frame};
 ghost use Rattle.rules.specs.Fit.{Fit};
@@ -39,7 +40,7 @@ fn may_deliver(user: u8, family: u8) -> bool
 
 // The user whom a session authenticate signs in.
 fn signs_in<S: Sealer>(settings: &Settings, slot: &Slot, telegram: &[u8]) -> Option<u8>
-    ensures { result ≡ signs_in settings.now S.Sealer.meaning (session_of slot.now) telegram.now }
+    ensures { result ≡ signs_in settings.now (meaning S.Sealer) (session_of slot.now) telegram.now }
 {
     let given = authenticate(telegram)?;
     let hash = settings.hash_of(given.user)?;
@@ -96,7 +97,7 @@ impl Core {
         requires fit { Fit (model self.old) }
         requires apart { Distinct self.old.table.rows }
         requires room { largest_frame ≤ length out.old }
-        ensures { Does (signing_in S.Sealer.meaning at number telegram.now) self.old self.new result out.old out.new }
+        ensures { Does (signing_in (meaning S.Sealer) at number telegram.now) self.old self.new result out.old out.new }
     {
         let slot = self.table.slot(at);
         let Some(user) = signs_in::<S>(&self.settings, &slot, telegram) else {
@@ -124,7 +125,7 @@ impl Core {
         requires apart { Distinct self.old.table.rows }
         requires room { largest_frame ≤ length out.old }
         requires small { length telegram.now ≤ largest_telegram }
-        ensures { Does (acting S.Sealer.meaning at number telegram.now) self.old self.new result out.old out.new }
+        ensures { Does (acting (meaning S.Sealer) at number telegram.now) self.old self.new result out.old out.new }
     {
         let slot = self.table.slot(at);
         match (slot.state, classify(telegram)) {

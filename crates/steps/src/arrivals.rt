@@ -1,4 +1,6 @@
 // A frame that arrives, by what it is.
+ghost use Rattle.rules.specs.Meaning.{Meaning, meaning};
+ghost use Rattle.rules.specs.declared.settings.Settings.{Settings};
 ghost use Rattle.std.specs.Prelude.{◌≡◌, ◌≤◌, true, length};
 ghost use Rattle.frames.specs.Limits.{largest_frame};
 ghost use Rattle.rules.specs.Fit.{Fit};
@@ -9,16 +11,18 @@ ghost use Rattle.steps.specs.Cores.{Does, model};
 ghost use Rattle.steps.specs.Steps.{arriving};
 
 use crate::core::Core;
+use crate::received::{Notice, Wrapper};
 use frames::reading::{Frame, Unreadable, read};
 use rules::answers::{Answer, Refusal};
 use rules::limits::GROUP;
 use sealer::Sealer;
 
 fn refusal_of(why: Unreadable) -> Refusal
-    ensures { result ≡ unread why }
+    ensures { (set : Settings) (M : Meaning) → result ≡ unread set M why }
 {
     match why {
         Unreadable::Header => Refusal::Header,
+        Unreadable::Kind => Refusal::Kind,
         Unreadable::Length => Refusal::Length,
     }
 }
@@ -37,17 +41,52 @@ impl Core {
         requires fit { Fit (model self.old) }
         requires room { largest_frame ≤ length out.old }
         requires area { largest_frame ≤ length work.old }
-        ensures { Does (arriving S.Sealer.meaning frame.now offer.now lot) self.old self.new result out.old out.new }
+        ensures { Does (arriving (meaning S.Sealer) frame.now offer.now lot) self.old self.new result out.old out.new }
     {
         let frame = match read(frame) {
             Ok(frame) => frame,
             Err(why) => return Err(refusal_of(why)),
         };
         match frame {
-            Frame::Other { .. } => Err(Refusal::Kind),
             Frame::Request { x } => self.request::<S>(x, offer, out),
-            Frame::Notice(notice) => self.notice::<S>(notice, lot),
-            Frame::Wrapper(wrapper) => {
+            Frame::Notice {
+                time,
+                serial,
+                tag,
+                associated,
+                nonce,
+                mac,
+            } => {
+                let notice = Notice {
+                    time,
+                    serial,
+                    tag,
+                    associated,
+                    nonce,
+                    mac,
+                };
+                self.notice::<S>(notice, lot)
+            }
+            Frame::Wrapper {
+                session,
+                number,
+                serial,
+                tag,
+                associated,
+                nonce,
+                ciphertext,
+                mac,
+            } => {
+                let wrapper = Wrapper {
+                    session,
+                    number,
+                    serial,
+                    tag,
+                    associated,
+                    nonce,
+                    ciphertext,
+                    mac,
+                };
                 if wrapper.session == GROUP {
                     self.group_wrapper::<S>(wrapper, lot, out, work)
                 } else {

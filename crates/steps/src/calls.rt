@@ -1,9 +1,9 @@
 // The calls with buffers: is there room, then the step; whichever way a call ends, the work area is cleared.
 ghost use Rattle.rules.specs.Calls.{announce, arrive, due, hang_up, send};
-ghost use Rattle.rules.specs.Rules.{roomy};
-ghost use Rattle.steps.specs.Buffers.{lending, wiped};
+ghost use Rattle.steps.specs.Buffers.{has_room, lending, wiped};
 ghost use Rattle.steps.specs.Cores.{Does, Ready};
 ghost use Rattle.steps.specs.Steps.{carrying};
+ghost use Rattle.rules.specs.Meaning.{meaning};
 ghost use Rattle.std.specs.Prelude.{◌≡◌};
 
 use crate::core::Core;
@@ -13,7 +13,7 @@ use rules::answers::{Answer, Refusal};
 use sealer::Sealer;
 
 fn has_room(out: &[u8], work: &[u8]) -> bool
-    ensures { result ≡ roomy (lending out.now work.now) }
+    ensures { result ≡ has_room out.now work.now }
 {
     out.len() >= LARGEST_FRAME && work.len() >= LARGEST_FRAME
 }
@@ -28,7 +28,7 @@ impl Core {
         work: &mut [u8],
     ) -> Result<Answer, Refusal>
         requires { Ready self.old }
-        ensures rule { Does (carrying S.Sealer.meaning (arrive frame.now offer.now lot (lending out.old work.old))) self.old self.new result out.old out.new }
+        ensures rule { Does (carrying (meaning S.Sealer) (arrive frame.now offer.now lot (lending out.old work.old))) self.old self.new result out.old out.new }
         ensures work { work.new ≡ wiped work.old }
     {
         let guard = Wipe { work };
@@ -45,7 +45,7 @@ impl Core {
         work: &mut [u8],
     ) -> Result<Answer, Refusal>
         requires { Ready self.old }
-        ensures rule { Does (carrying S.Sealer.meaning (due lot (lending out.old work.old))) self.old self.new result out.old out.new }
+        ensures rule { Does (carrying (meaning S.Sealer) (due lot (lending out.old work.old))) self.old self.new result out.old out.new }
         ensures work { work.new ≡ wiped work.old }
     {
         let guard = Wipe { work };
@@ -63,7 +63,7 @@ impl Core {
         work: &mut [u8],
     ) -> Result<Answer, Refusal>
         requires { Ready self.old }
-        ensures rule { Does (carrying S.Sealer.meaning (send session telegram.now (lending out.old work.old))) self.old self.new result out.old out.new }
+        ensures rule { Does (carrying (meaning S.Sealer) (send session telegram.now (lending out.old work.old))) self.old self.new result out.old out.new }
         ensures work { work.new ≡ wiped work.old }
     {
         let guard = Wipe { work };
@@ -81,7 +81,7 @@ impl Core {
         work: &mut [u8],
     ) -> Result<Answer, Refusal>
         requires { Ready self.old }
-        ensures rule { Does (carrying S.Sealer.meaning (announce telegram.now lot (lending out.old work.old))) self.old self.new result out.old out.new }
+        ensures rule { Does (carrying (meaning S.Sealer) (announce telegram.now lot (lending out.old work.old))) self.old self.new result out.old out.new }
         ensures work { work.new ≡ wiped work.old }
     {
         let guard = Wipe { work };
@@ -98,7 +98,7 @@ impl Core {
         work: &mut [u8],
     ) -> Result<Answer, Refusal>
         requires { Ready self.old }
-        ensures rule { Does (carrying S.Sealer.meaning (hang_up session (lending out.old work.old))) self.old self.new result out.old out.new }
+        ensures rule { Does (carrying (meaning S.Sealer) (hang_up session (lending out.old work.old))) self.old self.new result out.old out.new }
         ensures work { work.new ≡ wiped work.old }
     {
         let guard = Wipe { work };

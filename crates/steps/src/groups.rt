@@ -1,4 +1,5 @@
 // Frames of the group: those that arrive, and those that go out.
+ghost use Rattle.rules.specs.Meaning.{meaning};
 ghost use Rattle.std.specs.Prelude.{◌≡◌, ◌<◌, ◌≤◌, true, [], length};
 ghost use Rattle.frames.specs.Limits.{largest_frame};
 ghost use Rattle.frames.specs.Sealing.{wrapper};
@@ -14,11 +15,11 @@ ghost use Rattle.steps.specs.Timed.{Timed};
 ghost use Rattle.steps.specs.Steps.{announcing, group_receiving, notifying, noticing};
 
 use crate::core::Core;
+use crate::received::{Notice, Wrapper};
 use crate::sealed::{notify, wrap};
 use crate::sessions::is_good;
 use crate::wrappers::open;
 use frames::opening::notice_opens;
-use frames::reading::{Notice, Wrapper};
 use octets::runs::put;
 use rules::answers::{Answer, Refusal};
 use rules::limits::{GROUP, GROUP_USER, NUMBERS};
@@ -54,7 +55,7 @@ impl Core {
         requires small { length wrapper.ciphertext.now ≤ largest_telegram }
         requires room { largest_frame ≤ length out.old }
         requires area { largest_frame ≤ length work.old }
-        ensures { Does (group_receiving S.Sealer.meaning wrapper.entry lot) self.old self.new result out.old out.new }
+        ensures { Does (group_receiving (meaning S.Sealer) wrapper.entry lot) self.old self.new result out.old out.new }
     {
         let Wrapper {
             number,
@@ -87,7 +88,7 @@ impl Core {
         requires apart { Distinct self.old.table.rows }
         requires timed { self.old.group.timer < numbers }
         requires time { notice.time < numbers }
-        ensures { Does (noticing S.Sealer.meaning notice.entry lot) self.old self.new result [] [] }
+        ensures { Does (noticing (meaning S.Sealer) notice.entry lot) self.old self.new result [] [] }
     {
         let Notice {
             time,
@@ -122,7 +123,7 @@ impl Core {
         requires fit { Fit (model self.now) }
         requires small { length telegram.now ≤ largest_telegram }
         requires room { largest_frame ≤ length out.old }
-        ensures { Timed S.Sealer.meaning self.now.settings (next_time self.now.group.timer self.now.group.sent) lot telegram.now result out.old out.new }
+        ensures { Timed (meaning S.Sealer) self.now.settings (next_time self.now.group.timer self.now.group.sent) lot telegram.now result out.old out.new }
     {
         let time = self.next_time();
         if time >= NUMBERS {
@@ -151,7 +152,7 @@ impl Core {
         requires apart { Distinct self.old.table.rows }
         requires fit { Fit (model self.old) }
         requires room { largest_frame ≤ length out.old }
-        ensures { Does (announcing S.Sealer.meaning telegram.now lot) self.old self.new result out.old out.new }
+        ensures { Does (announcing (meaning S.Sealer) telegram.now lot) self.old self.new result out.old out.new }
     {
         if !is_good(telegram) {
             return Err(Refusal::Telegram);
@@ -171,7 +172,7 @@ impl Core {
         requires apart { Distinct self.old.table.rows }
         requires fit { Fit (model self.old) }
         requires room { largest_frame ≤ length out.old }
-        ensures { Does (notifying S.Sealer.meaning lot) self.old self.new result out.old out.new }
+        ensures { Does (notifying (meaning S.Sealer) lot) self.old self.new result out.old out.new }
     {
         let time = self.next_time();
         if self.group.countdown != 0 || time >= NUMBERS {

@@ -6,6 +6,7 @@ mod arrivals;
 mod calls;
 pub mod core;
 mod groups;
+pub mod received;
 mod requests;
 mod sealed;
 mod sessions;

@@ -1,4 +1,5 @@
 // Session requests.
+ghost use Rattle.rules.specs.Meaning.{meaning};
 ghost use Rattle.std.specs.Prelude.{◌≡◌, ◌≤◌, length, Ok};
 ghost use Rattle.frames.specs.Limits.{largest_frame};
 ghost use Rattle.frames.specs.Writing.{no_session};
@@ -65,7 +66,7 @@ impl Core {
     ) -> Result<Answer, Refusal>
         requires apart { Distinct self.old.table.rows }
         requires room { largest_frame ≤ length out.old }
-        ensures { Does (requesting S.Sealer.meaning x.now offer.now) self.old self.new result out.old out.new }
+        ensures { Does (requesting (meaning S.Sealer) x.now offer.now) self.old self.new result out.old out.new }
     {
         let Some(offer) = read_offer(offer) else {
             return Err(Refusal::Offer);

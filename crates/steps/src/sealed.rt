@@ -1,4 +1,5 @@
 // Frames that go out, into an output that has the room for every frame.
+ghost use Rattle.rules.specs.Meaning.{meaning};
 ghost use Rattle.std.specs.Prelude.{◌≡◌, ◌≤◌, length, Ok};
 ghost use Rattle.frames.specs.Limits.{largest_frame};
 ghost use Rattle.frames.specs.Sealing.{sealed_notice, sealed_response, wrapper};
@@ -21,8 +22,8 @@ pub(crate) fn wrap<S: Sealer>(
 ) -> Result<usize, Refusal>
     requires small { length telegram.now ≤ largest_telegram }
     requires room { largest_frame ≤ length out.old }
-    ensures length { result ≡ Ok (length (wrapper S.Sealer.meaning.ciphertext S.Sealer.meaning.mac key.now session number serial tag telegram.now)) }
-    ensures out { out.new ≡ over (wrapper S.Sealer.meaning.ciphertext S.Sealer.meaning.mac key.now session number serial tag telegram.now) out.old }
+    ensures length { result ≡ Ok (length (wrapper (meaning S.Sealer).ciphertext (meaning S.Sealer).mac key.now session number serial tag telegram.now)) }
+    ensures out { out.new ≡ over (wrapper (meaning S.Sealer).ciphertext (meaning S.Sealer).mac key.now session number serial tag telegram.now) out.old }
 {
     seal_wrapper::<S>(key, session, number, serial, tag, telegram, out).ok_or(Refusal::Buffers)
 }
@@ -35,8 +36,8 @@ pub(crate) fn notify<S: Sealer>(
     out: &mut [u8],
 ) -> Result<usize, Refusal>
     requires room { largest_frame ≤ length out.old }
-    ensures length { result ≡ Ok (length (sealed_notice S.Sealer.meaning.mac key.now time serial tag)) }
-    ensures out { out.new ≡ over (sealed_notice S.Sealer.meaning.mac key.now time serial tag) out.old }
+    ensures length { result ≡ Ok (length (sealed_notice (meaning S.Sealer).mac key.now time serial tag)) }
+    ensures out { out.new ≡ over (sealed_notice (meaning S.Sealer).mac key.now time serial tag) out.old }
 {
     seal_notice::<S>(key, time, serial, tag, out).ok_or(Refusal::Buffers)
 }
@@ -49,8 +50,8 @@ pub(crate) fn respond<S: Sealer>(
     out: &mut [u8],
 ) -> Result<usize, Refusal>
     requires room { largest_frame ≤ length out.old }
-    ensures length { result ≡ Ok (length (sealed_response S.Sealer.meaning.mac key.now session x.now y.now)) }
-    ensures out { out.new ≡ over (sealed_response S.Sealer.meaning.mac key.now session x.now y.now) out.old }
+    ensures length { result ≡ Ok (length (sealed_response (meaning S.Sealer).mac key.now session x.now y.now)) }
+    ensures out { out.new ≡ over (sealed_response (meaning S.Sealer).mac key.now session x.now y.now) out.old }
 {
     seal_response::<S>(key, session, x, y, out).ok_or(Refusal::Buffers)
 }

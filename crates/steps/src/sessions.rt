@@ -1,4 +1,5 @@
 // Sessions: found, told a status, ended, sent to.
+ghost use Rattle.rules.specs.Meaning.{meaning};
 ghost use Rattle.std.specs.Prelude.{◌≡◌, ◌<◌, ◌≤◌, true, length, Ok};
 ghost use Rattle.frames.specs.Limits.{largest_frame};
 ghost use Rattle.frames.specs.Writing.{status};
@@ -15,10 +16,10 @@ ghost use Rattle.steps.specs.Living.{Lives};
 
 use crate::core::Core;
 use crate::sealed::wrap;
+use clock::group::LAST_TIME;
 use frames::telegrams::family;
 use frames::writing::status_telegram;
 use rules::answers::{Answer, Refusal};
-use rules::limits::LAST_TIME;
 use rules::settings::Settings;
 use sealer::Sealer;
 use slots::slot::{Slot, State};
@@ -35,8 +36,8 @@ fn seal_own<S: Sealer>(
 ) -> Result<(usize, u64), Refusal>
     requires small { length telegram.now ≤ largest_telegram }
     requires room { largest_frame ≤ length out.old }
-    ensures answer { result ≡ Ok (length (own_wrapper settings.now S.Sealer.meaning slot.now.number (session_of slot.now) telegram.now), slot.now.own) }
-    ensures out { out.new ≡ over (own_wrapper settings.now S.Sealer.meaning slot.now.number (session_of slot.now) telegram.now) out.old }
+    ensures answer { result ≡ Ok (length (own_wrapper settings.now (meaning S.Sealer) slot.now.number (session_of slot.now) telegram.now), slot.now.own) }
+    ensures out { out.new ≡ over (own_wrapper settings.now (meaning S.Sealer) slot.now.number (session_of slot.now) telegram.now) out.old }
 {
     let serial = settings.own_serial();
     let length = wrap::<S>(&slot.key, slot.number, slot.own, serial, 0, telegram, out)?;
@@ -51,8 +52,8 @@ pub(crate) fn tell<S: Sealer>(
     out: &mut [u8],
 ) -> Result<Answer, Refusal>
     requires room { largest_frame ≤ length out.old }
-    ensures answer { result ≡ Ok (answer.Frame (length (own_wrapper settings.now S.Sealer.meaning slot.now.number (session_of slot.now) (status code)))) }
-    ensures out { out.new ≡ over (own_wrapper settings.now S.Sealer.meaning slot.now.number (session_of slot.now) (status code)) out.old }
+    ensures answer { result ≡ Ok (answer.Frame (length (own_wrapper settings.now (meaning S.Sealer) slot.now.number (session_of slot.now) (status code)))) }
+    ensures out { out.new ≡ over (own_wrapper settings.now (meaning S.Sealer) slot.now.number (session_of slot.now) (status code)) out.old }
 {
     let (length, _) = seal_own::<S>(settings, slot, &status_telegram(code), out)?;
     Ok(Answer::Frame { length })
@@ -90,7 +91,7 @@ impl Core {
         requires within { at < slots }
         requires apart { Distinct self.old.table.rows }
         requires room { largest_frame ≤ length out.old }
-        ensures { Does (ending S.Sealer.meaning at code) self.old self.new result out.old out.new }
+        ensures { Does (ending (meaning S.Sealer) at code) self.old self.new result out.old out.new }
     {
         let slot = self.table.slot(at);
         let answer = tell::<S>(&self.settings, &slot, code, out);
@@ -105,7 +106,7 @@ impl Core {
     ) -> Result<Answer, Refusal>
         requires apart { Distinct self.old.table.rows }
         requires room { largest_frame ≤ length out.old }
-        ensures { Does (hanging_up S.Sealer.meaning session) self.old self.new result out.old out.new }
+        ensures { Does (hanging_up (meaning S.Sealer) session) self.old self.new result out.old out.new }
     {
         let at = self.live(session)?;
         self.end::<S>(at, CLOSE, out)
@@ -122,7 +123,7 @@ impl Core {
         requires apart { Distinct self.old.table.rows }
         requires small { length telegram.now ≤ largest_telegram }
         requires room { largest_frame ≤ length out.old }
-        ensures { Does (sending_at S.Sealer.meaning at telegram.now) self.old self.new result out.old out.new }
+        ensures { Does (sending_at (meaning S.Sealer) at telegram.now) self.old self.new result out.old out.new }
     {
         let slot = self.table.slot(at);
         if let State::Unsigned = slot.state {
@@ -145,7 +146,7 @@ impl Core {
     ) -> Result<Answer, Refusal>
         requires apart { Distinct self.old.table.rows }
         requires room { largest_frame ≤ length out.old }
-        ensures { Does (sending S.Sealer.meaning session telegram.now) self.old self.new result out.old out.new }
+        ensures { Does (sending (meaning S.Sealer) session telegram.now) self.old self.new result out.old out.new }
     {
         let at = self.live(session)?;
         if !is_good(telegram) {

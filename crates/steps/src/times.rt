@@ -1,4 +1,5 @@
 // What time brings: waiting, sessions that lapse, timer notifies.
+ghost use Rattle.rules.specs.Meaning.{meaning};
 ghost use Rattle.std.specs.Prelude.{◌≡◌, ◌≤◌, true, length};
 ghost use Rattle.frames.specs.Limits.{largest_frame};
 ghost use Rattle.rules.specs.Fit.{Fit};
@@ -38,7 +39,7 @@ impl Core {
         requires apart { Distinct self.old.table.rows }
         requires fit { Fit (model self.old) }
         requires room { largest_frame ≤ length out.old }
-        ensures { Does (falling_due S.Sealer.meaning lot) self.old self.new result out.old out.new }
+        ensures { Does (falling_due (meaning S.Sealer) lot) self.old self.new result out.old out.new }
     {
         match self.first_lapsed() {
             Some(at) => self.end::<S>(at, LAPSED, out),

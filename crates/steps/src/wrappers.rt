@@ -1,4 +1,5 @@
 // Wrappers of a session that arrive.
+ghost use Rattle.rules.specs.Meaning.{meaning};
 ghost use Rattle.std.specs.Prelude.{◌≡◌, ◌<◌, ◌≤◌, length};
 ghost use Rattle.frames.specs.Limits.{largest_frame};
 ghost use Rattle.rules.specs.Fit.{Fit};
@@ -9,9 +10,9 @@ ghost use Rattle.steps.specs.Opened.{Opens};
 ghost use Rattle.steps.specs.Steps.{opening, receiving};
 
 use crate::core::Core;
+use crate::received::Wrapper;
 use cipher::Block;
 use frames::opening::open_wrapper;
-use frames::reading::Wrapper;
 use rules::answers::{Answer, Refusal};
 use sealer::Sealer;
 
@@ -23,7 +24,7 @@ pub(crate) fn open<S: Sealer>(
 ) -> Result<usize, Refusal>
     requires small { length wrapper.ciphertext.now ≤ largest_telegram }
     requires room { largest_frame ≤ length work.old }
-    ensures { Opens (opening S.Sealer.meaning key.now wrapper.entry) work.new result }
+    ensures { Opens (opening (meaning S.Sealer) key.now wrapper.entry) work.new result }
 {
     let Wrapper {
         nonce,
@@ -47,7 +48,7 @@ impl Core {
         requires small { length wrapper.ciphertext.now ≤ largest_telegram }
         requires room { largest_frame ≤ length out.old }
         requires area { largest_frame ≤ length work.old }
-        ensures { Does (receiving S.Sealer.meaning wrapper.entry) self.old self.new result out.old out.new }
+        ensures { Does (receiving (meaning S.Sealer) wrapper.entry) self.old self.new result out.old out.new }
     {
         let at = self.live(wrapper.session)?;
         if wrapper.serial == self.settings.own_serial() {

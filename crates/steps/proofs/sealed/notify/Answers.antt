@@ -1,3 +1,4 @@
+use Rattle.rules.specs.Meaning.{meaning}
 use Rattle.std.proofs.Common.{arith}
 use Rattle.steps.proofs.Lengths.{notice_length, put_front, put_length}
 use Rattle.steps.proofs.sealed.notify.Goals as goal
@@ -5,7 +6,7 @@ use Rattle.steps.proofs.sealed.notify.Goals as goal
 pub returns : goal.returns
 returns g c =
     let out = c.args.out.now in
-    let long = notice_length g.S.Sealer.meaning c.args.key.now c.told-key c.args.time c.args.serial c.args.tag in
+    let long = notice_length (meaning g.S.Sealer) c.args.key.now c.told-key c.args.time c.args.serial c.args.tag in
     let is = c.seal_notice.ensures.length in
     record {
       length = put_length _ _ out long (omega (arith, c.requires.room)) _ is _ _ c.ok_or.ensures.value;

@@ -1,5 +1,5 @@
 use Rattle.std.proofs.Common.{◌≡◌, sym, subst, rules}
-use Rattle.rules.proofs.Kept.{fit-new}
+use Rattle.rules.proofs.Kept.{fit_new}
 use Rattle.rules.specs.Fit.{Fit}
 use Rattle.rules.specs.Model.{new}
 use Rattle.steps.specs.Cores.{model}
@@ -12,5 +12,5 @@ returns c =
     record {
       new = is;
       kept = search rules;
-      ready = record { proper = c.are_proper.ensures; accepted = c.requires; apart = c.new-2.ensures.apart; fit = subst Fit (sym is) (fit-new set c.requires) };
+      ready = record { proper = c.are_proper.ensures; accepted = c.requires; apart = c.new-2.ensures.apart; fit = subst Fit (sym is) (fit_new set c.requires) };
     }
