@@ -12,7 +12,7 @@ use Rattle.rules.specs.Runs.{history, lent, state}
 use Rattle.rules.specs.declared.answers.Answer.{Answer}
 use Rattle.rules.specs.declared.answers.Refusal.{Refusal}
 use Rattle.rules.specs.declared.settings.Settings.{Settings}
-use Rattle.sealer.specs.Sealing.{Meaning}
+use Rattle.rules.specs.Meaning.{Meaning}
 use Rattle.steps.specs.Buffers.{wiped}
 use Rattle.steps.specs.Cores.{Ready, model}
 use Rattle.steps.specs.declared.core.Core.{Core}

@@ -5,7 +5,7 @@ use Rattle.rules.specs.Runs.{state}
 use Rattle.rules.specs.declared.answers.Refusal.{Refusal}
 use Rattle.rules.specs.declared.answers.Refusal.TheVariants as no
 use Rattle.rules.specs.declared.settings.Settings.{Settings}
-use Rattle.sealer.specs.Sealing.{Meaning}
+use Rattle.rules.specs.Meaning.{Meaning}
 use Rattle.steps.specs.Cores.{model}
 use Rattle.steps.specs.declared.core.Core.{Core}
 

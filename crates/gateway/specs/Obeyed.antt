@@ -8,7 +8,7 @@ use Rattle.rules.specs.Rules.{next}
 use Rattle.rules.specs.Runs.{Event, history, lent, state}
 use Rattle.rules.specs.declared.answers.Answer.{Answer}
 use Rattle.rules.specs.declared.answers.Refusal.{Refusal}
-use Rattle.sealer.specs.Sealing.{Meaning}
+use Rattle.rules.specs.Meaning.{Meaning}
 use Rattle.steps.specs.Buffers.{wiped}
 use Rattle.steps.specs.Cores.{model}
 use Rattle.steps.specs.declared.core.Core.{Core}
@@ -30,7 +30,7 @@ module _ (M : Meaning) (call : Call) (before after : Core) (answer : Result Answ
 
   -- after calls that led to the gateway as it came in: with this call they lead to the gateway as it goes out, what came of
   -- this call is the newest event, and every event keeps the law
-  pub record Goes_on (calls : List Call) : Type 0 where
+  pub record GoesOn (calls : List Call) : Type 0 where
     pub proper : ProperCalls (call ∷ calls)
     pub leads : state before.settings M (call ∷ calls) ≡ model after
     pub newest : history before.settings M (call ∷ calls) ≡ event_of ∷ history before.settings M calls
@@ -38,7 +38,7 @@ module _ (M : Meaning) (call : Call) (before after : Core) (answer : Result Answ
 
   -- the law, over all such calls
   abbrev pub Lawful : Type 0
-  Lawful = (calls : List Call) → ProperCalls calls → state before.settings M calls ≡ model before → Goes_on calls
+  Lawful = (calls : List Call) → ProperCalls calls → state before.settings M calls ≡ model before → GoesOn calls
 
   -- what every call promises
   pub record Promise : Type 0 where

@@ -8,7 +8,7 @@ use Rattle.rules.specs.Runs as runs
 use Rattle.rules.specs.Runs.{history, state}
 use Rattle.rules.specs.declared.answers.Refusal.TheVariants as no
 use Rattle.rules.specs.declared.settings.Settings.{Settings}
-use Rattle.sealer.specs.Sealing.{Meaning}
+use Rattle.rules.specs.Meaning.{Meaning}
 use Rattle.steps.specs.Cores.{model}
 use Rattle.steps.specs.declared.core.Core.{Core}
 use Rattle.steps.specs.Buffers.{lending}

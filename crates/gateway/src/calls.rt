@@ -1,6 +1,7 @@
 // The calls on the fields of a gateway, each with its rule and with the law over every run that led there.
 ghost use Rattle.gateway.specs.Obeyed.{Promise};
 ghost use Rattle.rules.specs.Calls.{announce, arrive, due, hang_up, pass, send};
+ghost use Rattle.rules.specs.Meaning.{meaning};
 ghost use Rattle.std.specs.Prelude.{[], Ok};
 ghost use Rattle.steps.specs.Buffers.{lending};
 ghost use Rattle.steps.specs.Cores.{Ready};
@@ -12,7 +13,7 @@ use steps::core::Core;
 pub(crate) fn pass<S: Sealer>(core: &mut Core, milliseconds: u32) -> Answer
     requires { Ready core.old }
     ensures ready { Ready core.new }
-    ensures promise { Promise S.Sealer.meaning (pass milliseconds) core.old core.new (Ok result) [] [] }
+    ensures promise { Promise (meaning S.Sealer) (pass milliseconds) core.old core.new (Ok result) [] [] }
 {
     core.passed(milliseconds);
     Answer::Taken
@@ -28,7 +29,7 @@ pub(crate) fn arrive<S: Sealer>(
 ) -> Result<Answer, Refusal>
     requires { Ready core.old }
     ensures ready { Ready core.new }
-    ensures promise { Promise S.Sealer.meaning (arrive frame.now offer.now lot (lending out.old work.old)) core.old core.new result out.new work.new }
+    ensures promise { Promise (meaning S.Sealer) (arrive frame.now offer.now lot (lending out.old work.old)) core.old core.new result out.new work.new }
 {
     core.arrive::<S>(frame, offer, lot, out, work)
 }
@@ -41,7 +42,7 @@ pub(crate) fn due<S: Sealer>(
 ) -> Result<Answer, Refusal>
     requires { Ready core.old }
     ensures ready { Ready core.new }
-    ensures promise { Promise S.Sealer.meaning (due lot (lending out.old work.old)) core.old core.new result out.new work.new }
+    ensures promise { Promise (meaning S.Sealer) (due lot (lending out.old work.old)) core.old core.new result out.new work.new }
 {
     core.due::<S>(lot, out, work)
 }
@@ -55,7 +56,7 @@ pub(crate) fn send<S: Sealer>(
 ) -> Result<Answer, Refusal>
     requires { Ready core.old }
     ensures ready { Ready core.new }
-    ensures promise { Promise S.Sealer.meaning (send session telegram.now (lending out.old work.old)) core.old core.new result out.new work.new }
+    ensures promise { Promise (meaning S.Sealer) (send session telegram.now (lending out.old work.old)) core.old core.new result out.new work.new }
 {
     core.send::<S>(session, telegram, out, work)
 }
@@ -69,7 +70,7 @@ pub(crate) fn announce<S: Sealer>(
 ) -> Result<Answer, Refusal>
     requires { Ready core.old }
     ensures ready { Ready core.new }
-    ensures promise { Promise S.Sealer.meaning (announce telegram.now lot (lending out.old work.old)) core.old core.new result out.new work.new }
+    ensures promise { Promise (meaning S.Sealer) (announce telegram.now lot (lending out.old work.old)) core.old core.new result out.new work.new }
 {
     core.announce::<S>(telegram, lot, out, work)
 }
@@ -82,7 +83,7 @@ pub(crate) fn hang_up<S: Sealer>(
 ) -> Result<Answer, Refusal>
     requires { Ready core.old }
     ensures ready { Ready core.new }
-    ensures promise { Promise S.Sealer.meaning (hang_up session (lending out.old work.old)) core.old core.new result out.new work.new }
+    ensures promise { Promise (meaning S.Sealer) (hang_up session (lending out.old work.old)) core.old core.new result out.new work.new }
 {
     core.hang_up::<S>(session, out, work)
 }

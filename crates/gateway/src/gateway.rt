@@ -5,6 +5,7 @@
 ghost use Rattle.gateway.specs.Made.{EitherWay, Made, Unmade};
 ghost use Rattle.gateway.specs.Obeyed.{Promise};
 ghost use Rattle.rules.specs.Calls.{announce, arrive, due, hang_up, pass, send};
+ghost use Rattle.rules.specs.Meaning.{meaning};
 ghost use Rattle.std.specs.Prelude.{◌≡◌, [], Ok};
 ghost use Rattle.steps.specs.Buffers.{lending};
 ghost use Rattle.steps.specs.Cores.{Ready};
@@ -26,7 +27,7 @@ pub struct Gateway<S> {
 impl<S: Sealer> Gateway<S> {
     // A new gateway, if the settings are acceptable.
     pub fn make(settings: Settings) -> Result<Gateway<S>, Refusal>
-        ensures { EitherWay result (λ g. Made S.Sealer.meaning settings g.core) (Unmade settings) }
+        ensures { EitherWay result (λ g. Made (meaning S.Sealer) settings g.core) (Unmade settings) }
     {
         if !settings.acceptable() {
             return Err(Refusal::Settings);
@@ -46,7 +47,7 @@ impl<S: Sealer> Gateway<S> {
 
     // Milliseconds pass.
     pub fn pass(&mut self, milliseconds: u32) -> Answer
-        ensures { Promise S.Sealer.meaning (pass milliseconds) self.old.core self.new.core (Ok result) [] [] }
+        ensures { Promise (meaning S.Sealer) (pass milliseconds) self.old.core self.new.core (Ok result) [] [] }
     {
         calls::pass::<S>(&mut self.core, milliseconds)
     }
@@ -60,14 +61,14 @@ impl<S: Sealer> Gateway<S> {
         out: &mut [u8],
         work: &mut [u8],
     ) -> Result<Answer, Refusal>
-        ensures { Promise S.Sealer.meaning (arrive frame.now offer.now lot (lending out.old work.old)) self.old.core self.new.core result out.new work.new }
+        ensures { Promise (meaning S.Sealer) (arrive frame.now offer.now lot (lending out.old work.old)) self.old.core self.new.core result out.new work.new }
     {
         calls::arrive::<S>(&mut self.core, frame, offer, lot, out, work)
     }
 
     // What time has brought: a lapsed session ends, or a timer notify goes out, or there is nothing.
     pub fn due(&mut self, lot: u32, out: &mut [u8], work: &mut [u8]) -> Result<Answer, Refusal>
-        ensures { Promise S.Sealer.meaning (due lot (lending out.old work.old)) self.old.core self.new.core result out.new work.new }
+        ensures { Promise (meaning S.Sealer) (due lot (lending out.old work.old)) self.old.core self.new.core result out.new work.new }
     {
         calls::due::<S>(&mut self.core, lot, out, work)
     }
@@ -80,7 +81,7 @@ impl<S: Sealer> Gateway<S> {
         out: &mut [u8],
         work: &mut [u8],
     ) -> Result<Answer, Refusal>
-        ensures { Promise S.Sealer.meaning (send session telegram.now (lending out.old work.old)) self.old.core self.new.core result out.new work.new }
+        ensures { Promise (meaning S.Sealer) (send session telegram.now (lending out.old work.old)) self.old.core self.new.core result out.new work.new }
     {
         calls::send::<S>(&mut self.core, session, telegram, out, work)
     }
@@ -93,7 +94,7 @@ impl<S: Sealer> Gateway<S> {
         out: &mut [u8],
         work: &mut [u8],
     ) -> Result<Answer, Refusal>
-        ensures { Promise S.Sealer.meaning (announce telegram.now lot (lending out.old work.old)) self.old.core self.new.core result out.new work.new }
+        ensures { Promise (meaning S.Sealer) (announce telegram.now lot (lending out.old work.old)) self.old.core self.new.core result out.new work.new }
     {
         calls::announce::<S>(&mut self.core, telegram, lot, out, work)
     }
@@ -105,7 +106,7 @@ impl<S: Sealer> Gateway<S> {
         out: &mut [u8],
         work: &mut [u8],
     ) -> Result<Answer, Refusal>
-        ensures { Promise S.Sealer.meaning (hang_up session (lending out.old work.old)) self.old.core self.new.core result out.new work.new }
+        ensures { Promise (meaning S.Sealer) (hang_up session (lending out.old work.old)) self.old.core self.new.core result out.new work.new }
     {
         calls::hang_up::<S>(&mut self.core, session, out, work)
     }

@@ -2,6 +2,7 @@
 ghost use Rattle.gateway.specs.Made.{EitherWay};
 ghost use Rattle.gateway.specs.Obeyed.{Promise};
 ghost use Rattle.gateway.specs.Ran.{Follows, Ran, Stops, call_of, out_of};
+ghost use Rattle.rules.specs.Meaning.{meaning};
 ghost use Rattle.std.specs.Prelude.{◌≡◌};
 
 use crate::gateway::Gateway;
@@ -56,7 +57,7 @@ fn carry_out<S: Sealer>(
     out: &mut [u8],
     work: &mut [u8],
 ) -> Result<Answer, Refusal>
-    ensures { Promise S.Sealer.meaning (call_of call.entry out.old work.old) gateway.old.core gateway.new.core result (out_of call.entry out.new) (out_of call.entry work.new) }
+    ensures { Promise (meaning S.Sealer) (call_of call.entry out.old work.old) gateway.old.core gateway.new.core result (out_of call.entry out.new) (out_of call.entry work.new) }
 {
     match call {
         Call::Arrive { frame, offer, lot } => gateway.arrive(frame, offer, lot, out, work),
@@ -70,7 +71,7 @@ fn carry_out<S: Sealer>(
 
 // The same with buffers of its own, and what came of it.
 fn step<'a, S: Sealer>(gateway: &mut Gateway<S>, call: Call<'a>) -> Event<'a>
-    ensures { Follows S.Sealer.meaning call.entry gateway.old.core gateway.new.core result }
+    ensures { Follows (meaning S.Sealer) call.entry gateway.old.core gateway.new.core result }
 {
     let before = gateway.timer();
     let mut out = [0; LARGEST_FRAME];
@@ -99,7 +100,7 @@ pub fn run<'a, S: Sealer>(
     settings: Settings,
     calls: &[Call<'a>],
 ) -> Result<Vec<Event<'a>>, Stopped>
-    ensures { EitherWay result (λ events. Ran S.Sealer.meaning settings calls.now events.items) (Stops settings) }
+    ensures { EitherWay result (λ events. Ran (meaning S.Sealer) settings calls.now events.items) (Stops settings) }
 {
     let mut gateway = match Gateway::<S>::make(settings) {
         Ok(gateway) => gateway,

@@ -4,5 +4,5 @@ use Rattle.gateway.proofs.gateway.Gateway.announce.Goals as goal
 pub announce-requires : goal.announce-requires
 announce-requires g c = ready c.args.self.now.core c.args.self.now.ready
 
-pub invariant-of-self : goal.invariant-of-self
-invariant-of-self g c = (∣ c.announce.ensures.ready ∣₁, tt)
+pub invariant_of-self : goal.invariant_of-self
+invariant_of-self g c = record { ready = ∣ c.announce.ensures.ready ∣₁ }

@@ -1,8 +1,8 @@
 use Rattle.gateway.proofs.Single.{ready}
 use Rattle.gateway.proofs.gateway.Gateway.hang_up.Goals as goal
 
-pub hang-up-requires : goal.hang-up-requires
-hang-up-requires g c = ready c.args.self.now.core c.args.self.now.ready
+pub hang_up-requires : goal.hang_up-requires
+hang_up-requires g c = ready c.args.self.now.core c.args.self.now.ready
 
-pub invariant-of-self : goal.invariant-of-self
-invariant-of-self g c = (∣ c.hang_up.ensures.ready ∣₁, tt)
+pub invariant_of-self : goal.invariant_of-self
+invariant_of-self g c = record { ready = ∣ c.hang_up.ensures.ready ∣₁ }

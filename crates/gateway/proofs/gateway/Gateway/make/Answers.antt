@@ -1,4 +1,4 @@
 use Rattle.gateway.proofs.gateway.Gateway.make.Goals as goal
 
-pub invariant-of-result : goal.invariant-of-result
-invariant-of-result g c = (∣ c.new.ensures.ready ∣₁, tt)
+pub invariant_of-result : goal.invariant_of-result
+invariant_of-result g c = record { ready = ∣ c.new.ensures.ready ∣₁ }
