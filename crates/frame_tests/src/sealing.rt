@@ -30,6 +30,22 @@ fn published_wrapper(rt: HostRuntime) {
     );
 }
 
+// The status that answers the sign-in, from the server's serial.
+#[test]
+fn published_status(rt: HostRuntime) {
+    let mut out = [0; 46];
+    let sealed = seal_wrapper::<Knx<Aes128>>(
+        knx::SESSION_KEY,
+        1,
+        0,
+        0x00fa_aaaa_aaaa,
+        0xaffe,
+        &status_telegram(0),
+        &mut out,
+    );
+    assert!(rt; sealed == Some(46) && out == *knx::STATUS);
+}
+
 #[test]
 fn no_room(rt: HostRuntime) {
     let key = knx::SESSION_KEY;

@@ -1,8 +1,11 @@
-// The program station on another script: runs of twelve gateways with the answers of an independent model.
+// The program week on another script: runs of twelve gateways with the answers of an independent model.
 #![tactic(auto)]
 
-use script::faults::Stop;
+use std::process::ExitCode;
 
-fn main(rt: HostRuntime) -> Result<(), Stop> {
-    script::run_standard(&rt)
+fn main(rt: HostRuntime) -> ExitCode {
+    match script::run_standard(&rt) {
+        Ok(()) => ExitCode::SUCCESS,
+        Err(_) => ExitCode::FAILURE,
+    }
 }

@@ -12,3 +12,4 @@ pub mod Runs
 pub mod Law
 pub mod Theorems
 pub mod Samples
+pub mod MoreSamples

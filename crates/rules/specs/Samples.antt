@@ -36,10 +36,10 @@ bench = record {
 }
 
 -- a gateway with one user, by its start and its tolerances
-abbrev user_one : User
+abbrev pub user_one : User
 user_one = record { present = true; hash = replicate 16 0x44 }
 
-abbrev nobody : User
+abbrev pub nobody : User
 nobody = record { present = false; hash = replicate 16 0 }
 
 abbrev pub site : ℕ → ℕ → ℕ → Settings
@@ -53,37 +53,37 @@ site start latency sync = record {
   sync = sync;
 }
 
-abbrev lent : Buffers
+abbrev pub lent : Buffers
 lent = record { out = replicate 512 0; work = replicate 512 0 }
 
-abbrev x : List ℕ
+abbrev pub x : List ℕ
 x = replicate 32 0x0a
 
-abbrev y : List ℕ
+abbrev pub y : List ℕ
 y = replicate 32 0x0b
 
-abbrev key : List ℕ
+abbrev pub key : List ℕ
 key = replicate 16 0x11
 
 -- a session request with the offer of session n
-abbrev request : ℕ → Call
+abbrev pub request : ℕ → Call
 request n = arrive ((0x06 ∷ 0x10 ∷ 0x09 ∷ 0x51 ∷ 0x00 ∷ 0x2e ∷ 0x08 ∷ 0x01 ∷ []) ++ replicate 6 0 ++ x) ((0 ∷ n ∷ []) ++ y ++ key) 0 lent
 
 -- a wrapper of session 1 from serial 00FA00000002
-abbrev wrapped_in_1 : ℕ → List ℕ → Call
+abbrev pub wrapped_in_1 : ℕ → List ℕ → Call
 wrapped_in_1 count telegram = arrive (wrapper bench.ciphertext bench.mac key 1 count 0x00fa00000002 0 telegram) [] 0 lent
 
 -- a wrapper of the group from that serial
 abbrev in_group : ℕ → Call
 in_group time = arrive (wrapper bench.ciphertext bench.mac (replicate 16 0x33) 0 time 0x00fa00000002 0 (0x06 ∷ 0x10 ∷ 0x05 ∷ 0x30 ∷ 0x00 ∷ 0x06 ∷ [])) [] 0 lent
 
-abbrev reading_of_litres : List ℕ
+abbrev pub reading_of_litres : List ℕ
 reading_of_litres = 0x06 ∷ 0x10 ∷ 0x05 ∷ 0x30 ∷ 0x00 ∷ 0x06 ∷ []
 
-abbrev sign_in_of_user_one : List ℕ
+abbrev pub sign_in_of_user_one : List ℕ
 sign_in_of_user_one = authenticate 1 (authenticate_mac bench.mac (replicate 16 0x44) 1 x y)
 
-abbrev answers : Settings → List Call → List (Result Answer Refusal)
+abbrev pub answers : Settings → List Call → List (Result Answer Refusal)
 answers set calls = map (λ e. e.answer) (history set bench calls)
 
 -- opening wrappers 0, which signs in, 0 and 1: the second is refused

@@ -8,6 +8,7 @@ pub mod settings;
 
 ghost use Rattle.rules.specs.Law.{RunsKeepTheLaw};
 ghost use Rattle.rules.specs.Meaning.{meant};
+ghost use Rattle.rules.specs.MoreSamples.{MoreSamples};
 ghost use Rattle.rules.specs.Samples.{AllSamples};
 ghost use Rattle.rules.specs.Theorems.{ChangesOneSession, NothingDueAfterNine, RefusalsChangeNothing};
 
@@ -21,6 +22,11 @@ pub fn every_run_keeps_the_law<S: Sealer>()
 // Short runs worked by hand.
 pub fn samples_hold()
     ensures { AllSamples }
+{}
+
+// And more of them.
+pub fn more_samples_hold()
+    ensures { MoreSamples }
 {}
 
 pub fn nothing_is_due_after_nine_calls()

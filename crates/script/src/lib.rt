@@ -14,17 +14,29 @@ use faults::{Fault, Stop};
 use station::Station;
 use std::alloc::Global;
 use std::io::{BufRead, BufReader, BufWriter, Write};
-use std::str;
+use std::{io, str};
 
 // Carries out the script on standard input. Where a line cannot be read, standard error says which and why.
 pub fn run_standard(rt: &HostRuntime) -> Result<(), Stop> {
-    let mut input = BufReader::new(rt.stdin());
-    let mut output = BufWriter::new(rt.stdout());
-    let result = run(rt.alloc(), &mut input, &mut output);
+    let result = run_buffered(rt);
     if let Err(stop) = &result {
         let _ = eprintln!(rt; "{stop}");
     }
     result
+}
+
+fn run_buffered(rt: &HostRuntime) -> Result<(), Stop> {
+    let heap = rt.alloc();
+    let mut input = BufReader::new(heap, rt.stdin()).map_err(before_any_line)?;
+    let mut output = BufWriter::new(heap, rt.stdout()).map_err(before_any_line)?;
+    run(heap, &mut input, &mut output)
+}
+
+fn before_any_line(error: io::Error) -> Stop {
+    Stop {
+        line: 0,
+        why: error.into(),
+    }
 }
 
 // Carries out a script to its end or to the first line that cannot be read. What a line prints is written out before the

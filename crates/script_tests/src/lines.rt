@@ -16,8 +16,8 @@ pub fn expect(
         Ok(()) => String::new(heap),
         Err(stop) => stop.to_string(heap)?,
     };
-    assert!(rt; output.as_slice() == printed.as_bytes(), "{}", script);
-    assert!(rt; ended.as_str() == end, "{}", ended);
+    assert!(rt; output.as_slice() == printed.as_bytes(), "{script}");
+    assert!(rt; ended.as_str() == end, "{ended}");
     Ok(())
 }
 
@@ -87,7 +87,7 @@ fn a_line_that_is_not_text(rt: HostRuntime) -> Result<(), Fail> {
     let Err(stop) = script::run(heap, &mut input, &mut output) else {
         return Err(Fail::new("read to the end"));
     };
-    assert!(rt; output.as_slice() == b"made\n# \xff\n");
+    assert!(rt; output.as_slice() == b"made\n# \xff\n".as_slice());
     assert!(rt; stop.to_string(heap)?.as_str() == "line 3: the line is not UTF-8 text");
     Ok(())
 }
