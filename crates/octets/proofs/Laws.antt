@@ -1,5 +1,5 @@
 -- The laws of the definitions. Assumes nothing.
-use Rattle.std.proofs.Common.{◌≡◌, ℕ, zero, suc, ◌+◌, ◌-◌, ◌*◌, ◌/◌, ◌%◌, ◌^◌, ◌<◌, ◌≤◌, List, [], ◌∷◌, length, get_or, take, drop, sym, refl, ap, ◌∙◌, mul_assoc, mul_comm, pow-suc, arith, pow-add}
+use Rattle.std.proofs.Common.{◌≡◌, ℕ, zero, suc, ◌+◌, ◌*◌, ◌/◌, ◌%◌, ◌^◌, ◌<◌, ◌≤◌, List, [], ◌∷◌, length, get_or, take, drop, sym, refl, ap, ◌∙◌, mul_assoc, mul_comm, pow-suc, arith, pow-add}
 use native.Mathlib.Nat.{pow-succ', add-mul-div_right, add-mul-mod_self_right}
 use lib.Arith.{mod-mul}
 use lib.Bits.{xor_assoc, xor_self, xor_zero_r, xor_comm, xor_lt}

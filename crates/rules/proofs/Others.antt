@@ -1,5 +1,5 @@
 -- Session request, pass, due, send, announce and hang up, rule by rule. Assumes nothing.
-use Rattle.std.proofs.Common.{◌≡◌, ℕ, ◌-◌, ◌^◌, ◌<◌, ◌≤◌, Bool, true, false, not, ◌&&◌, ◌||◌, eqb, ltb, leb, ◌≢◌, List, length, take, drop, is_some, Some, None, Ok, Option, sym, refl, ap, ◌∙◌, subst, inl, arith}
+use Rattle.std.proofs.Common.{◌≡◌, ℕ, ◌^◌, ◌<◌, ◌≤◌, Bool, true, false, not, ◌&&◌, ◌||◌, eqb, ltb, leb, ◌≢◌, List, length, take, drop, is_some, Some, None, Ok, Option, sym, refl, ap, ◌∙◌, subst, inl, arith}
 use Rattle.std.proofs.lemmas.List.{length-drop, length-take-le}
 use Rattle.std.proofs.lemmas.Bool.{and_parts, both_ways, eq-eqb, eqb-false, eqb-true, leb-true, ltb-true, ne_eqb, not-true}
 use Rattle.octets.proofs.Laws.{number_below}
@@ -11,7 +11,6 @@ use Rattle.frames.specs.Reading.{Shape, a_request, reading}
 use Rattle.frames.specs.Sealing.{sealed_notice, wrapper}
 use Rattle.frames.specs.Telegrams.{is_good, telegram_kind}
 use Rattle.frames.specs.Writing.{no_session, status}
-use Rattle.frames.specs.declared.telegrams.Telegram.{Telegram}
 use Rattle.rules.specs.declared.answers.Answer.TheVariants.{Nothing, Delivered, Sealed}
 use Rattle.rules.specs.declared.answers.Refusal.TheVariants as no
 use Rattle.rules.specs.declared.settings.Settings.{Settings}
@@ -27,7 +26,7 @@ use Rattle.rules.specs.Rules.{announce_at, announced, due_notice, due_now, end, 
 use Rattle.rules.specs.Runs.{lent, noted}
 use Rattle.rules.specs.Sessions.{all_waited, begun, lapsed, sent_one, waited}
 use Rattle.rules.proofs.Acts.{out_else, out_kind, out_seals, out_time, serial_below}
-use Rattle.rules.proofs.Counting.{Counted, count, count_same, counted_put, counted_same}
+use Rattle.rules.proofs.Counting.{Counted, count_same, counted_put, counted_same}
 use Rattle.rules.proofs.Facts.{Reached, cond_case, no_delivery, none_some, some_some, take_over}
 use Rattle.rules.proofs.Frames.{notice_back, response_long, response_unread, status_back, wrapper_back}
 use Rattle.rules.proofs.Moves.{Moves, Says, Still, about, absent, aside, goes, secrets, starts, stops}

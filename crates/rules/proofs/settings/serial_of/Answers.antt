@@ -1,4 +1,4 @@
-use Rattle.std.proofs.Common.{◌≡◌, ◌∙◌, subst, rules}
+use Rattle.std.proofs.Common.{◌≡◌, ◌∙◌, subst}
 use Rattle.octets.proofs.Laws.{number_of_whole}
 use Rattle.octets.specs.Numbers.{value}
 use Rattle.octets.specs.Runs.{number}
