@@ -277,11 +277,12 @@ impl<S: Sealer> Line<S> {
         None
     }
 
-    pub fn see(&mut self, step: &Step, seen: &Seen) -> Result<(), Fail> {
+    // Takes a step, and answers what differs from what is to be seen, if anything does.
+    fn fault_of(&mut self, step: &Step, seen: &Seen) -> Option<&'static str> {
         if let Step::Lend(out, work) = *step {
             self.out_room = out;
             self.work_room = work;
-            return Ok(());
+            return None;
         }
         self.out.fill(FILL);
         self.work.fill(FILL);
@@ -294,11 +295,16 @@ impl<S: Sealer> Line<S> {
             _ => after,
         };
         match self.fault(&got, seen) {
+            Some(why) => Some(why),
+            None if after != timer => Some("another timer"),
+            None => None,
+        }
+    }
+
+    pub fn see(&mut self, step: &Step, seen: &Seen) -> Result<(), Fail> {
+        match self.fault_of(step, seen) {
             Some(why) => Err(Fail::new(why)),
-            None => {
-                assert!(after == timer);
-                Ok(())
-            },
+            None => Ok(()),
         }
     }
 
@@ -306,7 +312,9 @@ impl<S: Sealer> Line<S> {
         let mut count = 0u8;
         for (step, seen) in run {
             count = count.wrapping_add(1);
-            self.see(step, seen).note(format_args!("step {count}"))?;
+            if let Some(why) = self.fault_of(step, seen) {
+                return Err(Fail::new(format_args!("step {count}: {why}")));
+            }
         }
         Ok(())
     }
