@@ -1,9 +1,8 @@
 -- Frames fit into an output that has the room for the largest. Assumes nothing.
-use Rattle.std.proofs.Common.{◌≡◌, ℕ, ◌+◌, ◌≤◌, true, cond, leb, List, [], ◌++◌, length, Some, None, Ok, Option, Result, sym, refl, ap, ◌∙◌, subst, arith}
+use Rattle.std.proofs.Common.{◌≡◌, ℕ, ◌+◌, ◌≤◌, List, [], ◌++◌, length, Some, Ok, Option, Result, refl, ap, ◌∙◌, arith}
 use Rattle.std.proofs.lemmas.List.{length-append}
 use Rattle.std.proofs.lemmas.Bool.{le-leb}
 use Rattle.std.specs.Option.{ok_or}
-use Rattle.octets.proofs.Laws.{xor_keeps_length}
 use Rattle.octets.specs.Runs.{over}
 use Rattle.frames.specs.Limits.{wrapper_overhead}
 use Rattle.frames.specs.Sealing.{exchange_data, sealed_notice, sealed_response, wrapper, wrapper_room, zero_nonce}

@@ -1,9 +1,8 @@
 -- What opening leaves in a work area that has the room. Assumes nothing.
-use Rattle.std.proofs.Common.{◌≡◌, ℕ, ◌≤◌, true, ◌&&◌, leb, List, ◌++◌, length, drop, Some, None, Ok, Err, Option, Result, sym, refl, ap, ◌∙◌, subst, arith}
+use Rattle.std.proofs.Common.{◌≡◌, ℕ, ◌≤◌, true, List, length, drop, Some, None, Option, Result, sym, refl, ap, ◌∙◌, subst, arith}
 use Rattle.std.proofs.lemmas.List.{length-append}
 use Rattle.std.proofs.lemmas.Bool.{le-leb}
 use Rattle.std.specs.Option.{ok_or}
-use Rattle.octets.specs.Runs.{over}
 use Rattle.frames.specs.Limits.{largest_frame}
 use Rattle.frames.specs.Opening.{fits_in, opened_area, opened_length}
 use Rattle.rules.proofs.Facts.{take_over}

@@ -1,5 +1,5 @@
 use Rattle.rules.specs.Meaning.{meaning}
-use Rattle.std.proofs.Common.{◌+◌, ◌∙◌, arith}
+use Rattle.std.proofs.Common.{◌∙◌, arith}
 use Rattle.steps.proofs.Lengths.{put_front, put_length, small_room, wrapper_length}
 use Rattle.steps.proofs.sealed.wrap.Goals as goal
 

@@ -1,7 +1,7 @@
-use Rattle.std.proofs.Common.{refl, sym, rules}
+use Rattle.std.proofs.Common.{rules}
 use Rattle.rules.specs.Calls.{refuse}
 use Rattle.rules.specs.Meaning.{meaning}
-use Rattle.steps.specs.Cores.{Does, model}
+use Rattle.steps.specs.Cores.{model}
 use Rattle.steps.specs.Steps.{arriving}
 use Rattle.steps.proofs.Fields.{does_same, unread_is}
 use Rattle.steps.proofs.core.Core.arrived.Goals as goal
