@@ -8,7 +8,7 @@ use Rattle.rules.specs.Law.{ProperCall, ProperSettings}
 use Rattle.rules.specs.Making.{acceptable}
 use Rattle.rules.specs.Model.{Model}
 use Rattle.rules.specs.Rules.{next}
-use Rattle.rules.specs.Runs.{Event, event, history, lent, state}
+use Rattle.rules.specs.Runs.{Event, event, history, lent}
 use Rattle.rules.specs.declared.answers.Answer.{Answer}
 use Rattle.rules.specs.declared.answers.Answer.TheVariants.{Taken}
 use Rattle.rules.specs.declared.answers.Refusal.{Refusal}
@@ -17,7 +17,7 @@ use Rattle.steps.specs.Buffers.{wiped}
 use Rattle.steps.specs.Cores.{Becomes, Does, Ready, model}
 use Rattle.steps.specs.Steps.{carrying, waited}
 use Rattle.steps.specs.declared.core.Core.{Core}
-use Rattle.gateway.specs.Obeyed.{GoesOn, Lawful, Obeys, event_of}
+use Rattle.gateway.specs.Obeyed.{Lawful, Obeys, event_of}
 
 module _ (M : Meaning) (call : Call) (before after : Core) (r : Result Answer Refusal) (out work : List ℕ)
     (does : Does (carrying M call) before after r (lent call).out out) (clears : work ≡ wiped (lent call).work) where
