@@ -15,7 +15,7 @@ use Rattle.rules.specs.declared.settings.Settings.{Settings}
 use Rattle.rules.specs.Meaning.{Meaning}
 use Rattle.steps.specs.Buffers.{wiped}
 use Rattle.steps.specs.Cores.{Ready, model}
-use Rattle.steps.specs.declared.core.Core.{Core}
+use Rattle.steps.specs.declared.state.Core.{Core}
 use Rattle.gateway.specs.Made.{Made}
 use Rattle.gateway.specs.Obeyed.{Promise, event_of}
 use Rattle.gateway.specs.Ran.{Follows, Ran, call_in_run, call_of, called, fresh, out_of, seen, seen_all}

@@ -16,7 +16,7 @@ use Rattle.rules.specs.Meaning.{Meaning}
 use Rattle.steps.specs.Buffers.{wiped}
 use Rattle.steps.specs.Cores.{Becomes, Does, Ready, model}
 use Rattle.steps.specs.Steps.{carrying, waited}
-use Rattle.steps.specs.declared.core.Core.{Core}
+use Rattle.steps.specs.declared.state.Core.{Core}
 use Rattle.gateway.specs.Obeyed.{Lawful, Obeys, event_of}
 
 module _ (M : Meaning) (call : Call) (before after : Core) (r : Result Answer Refusal) (out work : List ℕ)

@@ -10,7 +10,7 @@ use Rattle.rules.specs.Law.{ProperSettings}
 use Rattle.rules.specs.Model.{Model, Session}
 use Rattle.rules.specs.declared.settings.Settings.{Settings}
 use Rattle.steps.specs.Cores.{Ready, model}
-use Rattle.steps.specs.declared.core.Core.{Core}
+use Rattle.steps.specs.declared.state.Core.{Core}
 
 none : (x y : ⊥) → x ≡ y
 none x y = absurd x

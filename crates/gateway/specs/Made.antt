@@ -7,7 +7,7 @@ use Rattle.rules.specs.declared.answers.Refusal.TheVariants as no
 use Rattle.rules.specs.declared.settings.Settings.{Settings}
 use Rattle.rules.specs.Meaning.{Meaning}
 use Rattle.steps.specs.Cores.{model}
-use Rattle.steps.specs.declared.core.Core.{Core}
+use Rattle.steps.specs.declared.state.Core.{Core}
 
 -- P of what is there, or Q of why it is not
 abbrev pub EitherWay : {A B : Type 0} → Result A B → (A → Type 0) → (B → Type 0) → Type 0

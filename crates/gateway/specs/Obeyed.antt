@@ -11,7 +11,7 @@ use Rattle.rules.specs.declared.answers.Refusal.{Refusal}
 use Rattle.rules.specs.Meaning.{Meaning}
 use Rattle.steps.specs.Buffers.{wiped}
 use Rattle.steps.specs.Cores.{model}
-use Rattle.steps.specs.declared.core.Core.{Core}
+use Rattle.steps.specs.declared.state.Core.{Core}
 
 module _ (M : Meaning) (call : Call) (before after : Core) (answer : Result Answer Refusal) (out work : List ℕ) where
   -- the rule: answer, gateway, every octet of the output and of the work area

@@ -10,7 +10,7 @@ use Rattle.rules.specs.declared.answers.Refusal.TheVariants as no
 use Rattle.rules.specs.declared.settings.Settings.{Settings}
 use Rattle.rules.specs.Meaning.{Meaning}
 use Rattle.steps.specs.Cores.{model}
-use Rattle.steps.specs.declared.core.Core.{Core}
+use Rattle.steps.specs.declared.state.Core.{Core}
 use Rattle.steps.specs.Buffers.{lending}
 use Rattle.gateway.specs.declared.runs.Call.{Call}
 use Rattle.gateway.specs.declared.runs.Event.{Event}

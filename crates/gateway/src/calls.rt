@@ -8,7 +8,7 @@ ghost use Rattle.steps.specs.Cores.{Ready};
 
 use rules::answers::{Answer, Refusal};
 use sealer::Sealer;
-use steps::core::Core;
+use steps::state::Core;
 
 pub(crate) fn pass<S: Sealer>(core: &mut Core, milliseconds: u32) -> Answer
     requires { Ready core.old }

@@ -15,7 +15,7 @@ use rules::answers::{Answer, Refusal};
 use rules::settings::Settings;
 use sealer::Sealer;
 use std::marker::PhantomData;
-use steps::core::Core;
+use steps::state::Core;
 
 #[derive(Drop)]
 pub struct Gateway<S> {

@@ -19,7 +19,7 @@ use Rattle.steps.specs.Cores.{Becomes, Does, model}
 use Rattle.steps.specs.Living.{Lapsed, Lapses}
 use Rattle.steps.specs.Buffers.{has_room, lending}
 use Rattle.steps.specs.Steps.{arriving, carrying, ending, falling_due, notifying, number_at}
-use Rattle.steps.specs.declared.core.Core.{Core}
+use Rattle.steps.specs.declared.state.Core.{Core}
 
 -- which session lapsed, by its place
 pub first_lapsed_at : (c : Core) (o : Option ℕ) → rows.Lapses c.table.rows o → IfSome o (λ i. i < slots) → Lapses c o

@@ -10,7 +10,7 @@ use Rattle.rules.specs.declared.answers.Answer.{Answer}
 use Rattle.rules.specs.declared.answers.Refusal.{Refusal}
 use Rattle.slots.specs.Rows.{Distinct, held_rows, look_up}
 use Rattle.clock.specs.Laws.{gateway_of}
-use Rattle.steps.specs.declared.core.Core.{Core}
+use Rattle.steps.specs.declared.state.Core.{Core}
 
 -- the gateway without its slots
 abbrev pub model : Core → Model

@@ -9,7 +9,7 @@ use Rattle.slots.specs.Rows.{look_up, row, session_of}
 use Rattle.slots.specs.declared.slot.Slot.{Slot}
 use Rattle.steps.specs.Cores.{model}
 use Rattle.steps.specs.Steps.{found, number_at, session_at}
-use Rattle.steps.specs.declared.core.Core.{Core}
+use Rattle.steps.specs.declared.state.Core.{Core}
 
 -- no session, or one that has lapsed
 abbrev pub gone : Option Session → Bool

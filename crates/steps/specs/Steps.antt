@@ -13,7 +13,7 @@ use Rattle.rules.specs.Meaning.{Meaning}
 use Rattle.slots.specs.Rows.{held_rows, look_up, row, session_of}
 use Rattle.slots.specs.declared.slot.Slot.{Slot}
 use Rattle.steps.specs.Cores.{model}
-use Rattle.steps.specs.declared.core.Core.{Core}
+use Rattle.steps.specs.declared.state.Core.{Core}
 
 -- the row at a place, its session's number, and its session
 abbrev pub slot_at : Core → ℕ → Slot

@@ -10,8 +10,8 @@ ghost use Rattle.slots.specs.Rows.{Distinct, session_of};
 ghost use Rattle.steps.specs.Cores.{Becomes, Does, model};
 ghost use Rattle.steps.specs.Steps.{acting, ended, found, gone_on, number_at, session_at, signing_in};
 
-use crate::core::Core;
 use crate::sessions::{CLOSE, tell};
+use crate::state::Core;
 use frames::sealing::mac_of_authenticate;
 use frames::telegrams::{Telegram, authenticate, classify};
 use octets::runs::put;

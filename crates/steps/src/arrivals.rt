@@ -10,8 +10,8 @@ ghost use Rattle.slots.specs.Rows.{Distinct};
 ghost use Rattle.steps.specs.Cores.{Does, model};
 ghost use Rattle.steps.specs.Steps.{arriving};
 
-use crate::core::Core;
 use crate::received::{Notice, Wrapper};
+use crate::state::Core;
 use frames::reading::{Frame, Unreadable, read};
 use rules::answers::{Answer, Refusal};
 use rules::limits::GROUP;

@@ -6,7 +6,7 @@ ghost use Rattle.steps.specs.Steps.{carrying};
 ghost use Rattle.rules.specs.Meaning.{meaning};
 ghost use Rattle.std.specs.Prelude.{◌≡◌};
 
-use crate::core::Core;
+use crate::state::Core;
 use crate::wipe::Wipe;
 use frames::LARGEST_FRAME;
 use rules::answers::{Answer, Refusal};

@@ -14,10 +14,10 @@ ghost use Rattle.steps.specs.Cores.{Becomes, Does, model};
 ghost use Rattle.steps.specs.Timed.{Timed};
 ghost use Rattle.steps.specs.Steps.{announcing, group_receiving, notifying, noticing};
 
-use crate::core::Core;
 use crate::received::{Notice, Wrapper};
 use crate::sealed::{notify, wrap};
 use crate::sessions::is_good;
+use crate::state::Core;
 use crate::wrappers::open;
 use frames::opening::notice_opens;
 use octets::runs::put;

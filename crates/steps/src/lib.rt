@@ -4,12 +4,12 @@
 mod acts;
 mod arrivals;
 mod calls;
-pub mod core;
 mod groups;
 pub mod received;
 mod requests;
 mod sealed;
 mod sessions;
+pub mod state;
 mod times;
 mod wipe;
 mod wrappers;

@@ -10,8 +10,8 @@ ghost use Rattle.steps.specs.Cores.{Does};
 ghost use Rattle.steps.specs.Offers.{Offers};
 ghost use Rattle.steps.specs.Steps.{requesting};
 
-use crate::core::Core;
 use crate::sealed::respond;
+use crate::state::Core;
 use cipher::Block;
 use frames::headers::part_at;
 use frames::writing::refuse_session;

@@ -14,8 +14,8 @@ ghost use Rattle.steps.specs.Cores.{Does};
 ghost use Rattle.steps.specs.Steps.{ending, hanging_up, number_at, sending, sending_at};
 ghost use Rattle.steps.specs.Living.{Lives};
 
-use crate::core::Core;
 use crate::sealed::wrap;
+use crate::state::Core;
 use clock::group::LAST_TIME;
 use frames::telegrams::family;
 use frames::writing::status_telegram;

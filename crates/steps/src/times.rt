@@ -9,7 +9,7 @@ ghost use Rattle.steps.specs.Cores.{Becomes, Does, model};
 ghost use Rattle.steps.specs.Living.{Lapses};
 ghost use Rattle.steps.specs.Steps.{falling_due, waited};
 
-use crate::core::Core;
+use crate::state::Core;
 use rules::answers::{Answer, Refusal};
 use sealer::Sealer;
 

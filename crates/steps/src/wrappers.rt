@@ -9,8 +9,8 @@ ghost use Rattle.steps.specs.Cores.{Does, model};
 ghost use Rattle.steps.specs.Opened.{Opens};
 ghost use Rattle.steps.specs.Steps.{opening, receiving};
 
-use crate::core::Core;
 use crate::received::Wrapper;
+use crate::state::Core;
 use cipher::Block;
 use frames::opening::open_wrapper;
 use rules::answers::{Answer, Refusal};

@@ -4,7 +4,7 @@ use Rattle.rules.specs.Meaning.{meaning}
 use Rattle.steps.specs.Cores.{model}
 use Rattle.steps.specs.Steps.{arriving}
 use Rattle.steps.proofs.Fields.{does_same, unread_is}
-use Rattle.steps.proofs.core.Core.arrived.Goals as goal
+use Rattle.steps.proofs.state.Core.arrived.Goals as goal
 
 pub returns-in-Err : goal.returns-in-Err
 returns-in-Err g c =

@@ -6,7 +6,7 @@ use Rattle.steps.specs.Buffers.{lending}
 use Rattle.steps.specs.Cores.{model}
 use Rattle.steps.specs.Steps.{carrying, falling_due}
 use Rattle.steps.proofs.Fields.{does_same, due_with_room, due_without_room}
-use Rattle.steps.proofs.core.Core.due.Goals as goal
+use Rattle.steps.proofs.state.Core.due.Goals as goal
 
 pub returns-clause-rule : goal.returns-clause-rule
 returns-clause-rule g c =

@@ -3,7 +3,7 @@ use Rattle.rules.proofs.Kept.{fit_new}
 use Rattle.rules.specs.Fit.{Fit}
 use Rattle.rules.specs.Model.{new}
 use Rattle.steps.specs.Cores.{model}
-use Rattle.steps.proofs.core.Core.new.Goals as goal
+use Rattle.steps.proofs.state.Core.new.Goals as goal
 
 pub returns : goal.returns
 returns c =

@@ -1,7 +1,7 @@
 use Rattle.rules.specs.Meaning.{meaning}
 use Rattle.steps.specs.Steps.{ending, falling_due, notifying}
 use Rattle.steps.proofs.Fields.{does_same, lapsed_due, none_due}
-use Rattle.steps.proofs.core.Core.due_now.Goals as goal
+use Rattle.steps.proofs.state.Core.due_now.Goals as goal
 
 pub returns-in-Some : goal.returns-in-Some
 returns-in-Some g c =
