@@ -8,21 +8,21 @@ use Rattle.frames.specs.declared.reading.Unreadable.{Unreadable}
 use Rattle.rules.specs.Calls.{Step, due, refuse}
 use Rattle.rules.specs.Limits.{last_time, slots}
 use Rattle.rules.specs.Meaning.{Meaning}
-use Rattle.rules.specs.Rules.{arrived, due_now, end_lapsed, unread}
-use Rattle.rules.specs.Sessions.{first_lapsed}
+use Rattle.rules.specs.Rules.{arrived, unread}
 use Rattle.rules.specs.declared.answers.Answer.{Answer}
 use Rattle.rules.specs.declared.answers.Refusal.{Refusal}
 use Rattle.rules.specs.declared.answers.Refusal.TheVariants.{Buffers}
 use Rattle.slots.proofs.Ruled.{lapsed_is_the_rule}
 use Rattle.slots.specs.Lapses as rows
 use Rattle.steps.specs.Cores.{Becomes, Does, model}
-use Rattle.steps.specs.Living.{Lapsed, Lapses}
+use Rattle.steps.specs.Living.{Lapses}
 use Rattle.steps.specs.Buffers.{has_room, lending}
-use Rattle.steps.specs.Steps.{arriving, carrying, ending, falling_due, notifying, number_at}
+use Rattle.steps.specs.Steps.{arriving, carrying, falling_due, next_lapsed}
 use Rattle.steps.specs.declared.state.Core.{Core}
 
 -- which session lapsed, by its place
 pub first_lapsed_at : (c : Core) (o : Option ℕ) → rows.Lapses c.table.rows o → IfSome o (λ i. i < slots) → Lapses c o
+unfolding next_lapsed
 first_lapsed_at c None l w = sym (lapsed_is_the_rule (model c) c.table.rows) ∙ l
 first_lapsed_at c (Some i) l w = record { within = w; is = sym (lapsed_is_the_rule (model c) c.table.rows) ∙ l.is; session = l.found.session }
 
@@ -43,18 +43,11 @@ module _ (M : Meaning) (c : Core) where
       → refusal ≡ unread c.settings M why → Err why ≡ reading frame → refuse (model c) refusal ≡ arriving M frame offer lot c
   unread_is frame offer lot why refusal e rd = ap (refuse (model c)) e ∙ ap (arrived c.settings M (model c) offer lot) rd
 
-  -- the session that is due, by its place
-  pub lapsed_due : (at lot : ℕ) → Lapsed c at → ending M at 3 c ≡ falling_due M lot c
-  lapsed_due at lot l =
-      sym (ap (due_now c.settings M (model c) lot) l.is ∙ ap (end_lapsed c.settings M (model c) (number_at c at)) l.session)
-
-  -- with none lapsed, a timer notify may be due
-  pub none_due : (lot : ℕ) → first_lapsed (model c) ≡ None → notifying M lot c ≡ falling_due M lot c
-  none_due lot e = sym (ap (due_now c.settings M (model c) lot) e)
-
   -- due, where there is room and where there is none
   pub due_with_room : (lot : ℕ) (out work : List ℕ) → has_room out work ≡ true → falling_due M lot c ≡ carrying M (due lot (lending out work)) c
+  unfolding next_lapsed
   due_with_room lot out work h = sym (cond-true (has_room out work) (falling_due M lot c) (refuse (model c) Buffers) h)
 
   pub due_without_room : (lot : ℕ) (out work : List ℕ) → has_room out work ≡ false → refuse (model c) Buffers ≡ carrying M (due lot (lending out work)) c
+  unfolding next_lapsed
   due_without_room lot out work h = sym (cond-false (has_room out work) (falling_due M lot c) (refuse (model c) Buffers) h)

@@ -25,6 +25,10 @@ number_at c at = (slot_at c at).number
 abbrev pub session_at : Core → ℕ → Session
 session_at c at = session_of (slot_at c at)
 
+-- the lapsed session with the smallest number; shut, since it looks through all session numbers
+unfoldable pub next_lapsed : Model → Option ℕ
+next_lapsed g = first_lapsed g
+
 -- session n, if there is one
 abbrev pub found : Core → ℕ → Option Session
 found c n = look_up c.table.rows n
@@ -93,7 +97,7 @@ module _ (M : Meaning) where
   notifying lot c = rule.due_notice c.settings M (model c) lot
 
   abbrev pub falling_due : ℕ → Core → Step
-  falling_due lot c = rule.due_now c.settings M (model c) lot (first_lapsed (model c))
+  falling_due lot c = rule.due_now c.settings M (model c) lot (next_lapsed (model c))
 
   abbrev pub arriving : List ℕ → List ℕ → ℕ → Core → Step
   arriving frame offer lot c = rule.arrived c.settings M (model c) offer lot (reading frame)
