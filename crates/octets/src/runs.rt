@@ -1,6 +1,6 @@
 // Runs of octets in a buffer.
 ghost use Rattle.octets.specs.Runs.{over_at, xor};
-ghost use Rattle.std.specs.Prelude.{◌≡◌, ◌+◌, ◌<◌, ◌≤◌, length, bit_xor, slice_index, slice_set};
+ghost use Rattle.std.specs.Prelude.{◌≡◌, ◌+◌, ◌<◌, ◌≤◌, length, take, drop, bit_xor, slice_index, slice_set};
 
 fn xor_at(into: &mut [u8], with: &[u8], at: usize)
     requires { (at < length into.old) × (at < length with.now) }
@@ -25,4 +25,12 @@ pub fn put(out: &mut [u8], at: usize, octets: &[u8])
     ensures { out.new ≡ over_at at octets.now out.old }
 {
     out[at..at + octets.len()].copy_from_slice(octets);
+}
+
+// The N octets from a place on.
+pub fn part_at<const N: usize>(octets: &[u8], at: usize) -> &[u8; N]
+    requires { at + N ≤ length octets.now }
+    ensures { result.now ≡ take N (drop at octets.now) }
+{
+    octets[at..].first_chunk().unwrap()
 }
