@@ -8,22 +8,14 @@ use octets::numbers::u16_of;
 pub fn stated_kind(octets: &[u8]) -> Option<u16>
     ensures { result ≡ stated_kind octets.now }
 {
-    let [
-        0x06,
-        0x10,
-        kind_high,
-        kind_low,
-        length_high,
-        length_low,
-        rest @ ..,
-    ] = octets
-    else {
-        return None;
-    };
-    if u16_of(&[*length_high, *length_low]) as usize != 6 + rest.len() {
-        return None;
+    match octets {
+        [0x06, 0x10, kind_high, kind_low, length_high, length_low, ..]
+            if u16_of(&[*length_high, *length_low]) as usize == octets.len() =>
+        {
+            Some(u16_of(&[*kind_high, *kind_low]))
+        }
+        _ => None,
     }
-    Some(u16_of(&[*kind_high, *kind_low]))
 }
 
 // The N octets from a place on.

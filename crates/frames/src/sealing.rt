@@ -17,9 +17,8 @@ ghost use Rattle.sealer.specs.Limits.{largest_telegram};
 ghost use Rattle.frames.specs.Writing.{left, room};
 
 use crate::WRAPPER_OVERHEAD;
-use crate::writing::{
-    authenticate_lead, nonce_of, notice_lead, put_parts, response_lead, wrapper_lead,
-};
+use crate::stamps::Stamp;
+use crate::writing::{authenticate_lead, notice_lead, put_parts, response_lead, wrapper_lead};
 use cipher::Block;
 use octets::runs::xor_into;
 use sealer::{LARGEST_TELEGRAM, Nonce, Sealer};
@@ -35,15 +34,13 @@ fn notify<S: Sealer>(key: &Block, lead: &[u8; 6], nonce: &Nonce, out: &mut [u8])
 // A timer notify, put to the front of the output if that has the room.
 pub fn seal_notice<S: Sealer>(
     key: &Block,
-    time: u64,
-    serial: u64,
-    tag: u16,
+    stamp: Stamp,
     out: &mut [u8],
 ) -> Option<usize>
     ensures length { result ≡ room notice_length out.old }
-    ensures out { out.new ≡ left result (sealed_notice S.Sealer.mac key.now time serial tag) out.old }
+    ensures out { out.new ≡ left result (sealed_notice S.Sealer.mac key.now stamp.number stamp.serial stamp.tag) out.old }
 {
-    notify::<S>(key, &notice_lead(), &nonce_of(time, serial, tag), out)
+    notify::<S>(key, &notice_lead(), &stamp.nonce(), out)
 }
 
 // Two runs, which fill the buffer.
@@ -139,19 +136,16 @@ fn wrap<S: Sealer>(
 pub fn seal_wrapper<S: Sealer>(
     key: &Block,
     session: u16,
-    number: u64,
-    serial: u64,
-    tag: u16,
+    stamp: Stamp,
     telegram: &[u8],
     out: &mut [u8],
 ) -> Option<usize>
     ensures length { result ≡ wrapper_room (length telegram.now) out.old }
-    ensures out { out.new ≡ left result (wrapper S.Sealer.ciphertext S.Sealer.mac key.now session number serial tag telegram.now) out.old }
+    ensures out { out.new ≡ left result (wrapper S.Sealer.ciphertext S.Sealer.mac key.now session stamp.number stamp.serial stamp.tag telegram.now) out.old }
 {
     if telegram.len() > LARGEST_TELEGRAM {
         return None;
     }
-    let size = (telegram.len() + WRAPPER_OVERHEAD) as u16;
-    let lead = wrapper_lead(size, session);
-    wrap::<S>(key, &lead, &nonce_of(number, serial, tag), telegram, out)
+    let lead = wrapper_lead(telegram.len() + WRAPPER_OVERHEAD, session);
+    wrap::<S>(key, &lead, &stamp.nonce(), telegram, out)
 }

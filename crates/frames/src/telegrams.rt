@@ -3,7 +3,8 @@ ghost use Rattle.frames.specs.Telegrams.{good_family, sign_in, signed, telegram_
 ghost use Rattle.std.specs.Prelude.{◌≡◌};
 
 use crate::headers::{part_at, stated_kind};
-use crate::{AUTHENTICATE, AUTHENTICATE_LENGTH};
+use crate::kinds::Kind;
+use crate::AUTHENTICATE_LENGTH;
 use cipher::Block;
 use sealer::LARGEST_TELEGRAM;
 
@@ -45,10 +46,7 @@ pub fn classify(telegram: &[u8]) -> Telegram
         [0x06, 0x10, 0x09, 0x53, ..] => Telegram::Authenticate,
         // the last octet is not read
         [0x06, 0x10, 0x09, 0x54, 0, 8, status, _] => Telegram::Status(*status),
-        _ => match family(telegram) {
-            Some(family) => Telegram::Good(family),
-            None => Telegram::Other,
-        },
+        _ => family(telegram).map_or(Telegram::Other, Telegram::Good),
     }
 }
 
@@ -57,7 +55,10 @@ pub fn authenticate(telegram: &[u8]) -> Option<SignIn>
     ensures { signed result ≡ sign_in telegram.now }
 {
     let kind = stated_kind(telegram)?;
-    if kind != AUTHENTICATE || telegram.len() != AUTHENTICATE_LENGTH || telegram[6] != 0 {
+    if kind != Kind::Authenticate as u16
+        || telegram.len() != AUTHENTICATE_LENGTH
+        || telegram[6] != 0
+    {
         return None;
     }
     Some(SignIn {
