@@ -23,14 +23,6 @@ use cipher::Block;
 use octets::runs::xor_into;
 use sealer::{LARGEST_TELEGRAM, Nonce, Sealer};
 
-fn notify<S: Sealer>(key: &Block, lead: &[u8; 6], nonce: &Nonce, out: &mut [u8]) -> Option<usize>
-    ensures length { result ≡ room notice_length out.old }
-    ensures out { out.new ≡ left result (notified S.Sealer.mac key.now lead.now nonce.now) out.old }
-{
-    let mac = S::seal(key, nonce, lead, &mut []);
-    put_parts(lead, nonce, &mac, out)
-}
-
 // A timer notify, put to the front of the output if that has the room.
 pub fn seal_notice<S: Sealer>(
     key: &Block,
@@ -40,28 +32,21 @@ pub fn seal_notice<S: Sealer>(
     ensures length { result ≡ room notice_length out.old }
     ensures out { out.new ≡ left result (sealed_notice S.Sealer.mac key.now stamp.number stamp.serial stamp.tag) out.old }
 {
-    notify::<S>(key, &notice_lead(), &stamp.nonce(), out)
-}
-
-// Two runs, which fill the buffer.
-fn join(first: &[u8], second: &[u8], into: &mut [u8])
-    requires { length first.now + length second.now ≡ length into.old }
-    ensures { into.new ≡ first.now ++ second.now }
-{
-    let a = first.len();
-    let b = into.len();
-    into[..a].copy_from_slice(first);
-    into[a..b].copy_from_slice(second);
+    let lead = notice_lead();
+    let nonce = stamp.nonce();
+    let mac = S::seal(key, &nonce, &lead, &mut []);
+    put_parts(&lead, &nonce, &mac, out)
 }
 
 // The associated data of a session response and of a session authenticate.
 fn exchange_octets(lead: &[u8; 8], x: &[u8; 32], y: &[u8; 32]) -> [u8; 40]
     ensures { result ≡ exchange_data lead.now x.now y.now }
 {
-    let mut both = *x;
-    xor_into(&mut both, y);
     let mut octets = [0; 40];
-    join(lead, &both, &mut octets);
+    let (front, back) = octets.split_at_mut(8);
+    front.copy_from_slice(lead);
+    back.copy_from_slice(x);
+    xor_into(back, y);
     octets
 }
 
@@ -69,20 +54,6 @@ fn mac_of_exchange<S: Sealer>(key: &Block, lead: &[u8; 8], x: &[u8; 32], y: &[u8
     ensures { result ≡ exchange_mac S.Sealer.mac key.now lead.now x.now y.now }
 {
     S::seal(key, &[0; 14], &exchange_octets(lead, x, y), &mut [])
-}
-
-fn respond<S: Sealer>(
-    key: &Block,
-    lead: &[u8; 8],
-    x: &[u8; 32],
-    y: &[u8; 32],
-    out: &mut [u8],
-) -> Option<usize>
-    ensures length { result ≡ room response_length out.old }
-    ensures out { out.new ≡ left result (responded S.Sealer.mac key.now lead.now x.now y.now) out.old }
-{
-    let mac = mac_of_exchange::<S>(key, lead, x, y);
-    put_parts(lead, y, &mac, out)
 }
 
 // A session response, under the device code, put to the front of the output if that has the room.
@@ -96,7 +67,9 @@ pub fn seal_response<S: Sealer>(
     ensures length { result ≡ room response_length out.old }
     ensures out { out.new ≡ left result (sealed_response S.Sealer.mac key.now session x.now y.now) out.old }
 {
-    respond::<S>(key, &response_lead(session), x, y, out)
+    let lead = response_lead(session);
+    let mac = mac_of_exchange::<S>(key, &lead, x, y);
+    put_parts(&lead, y, &mac, out)
 }
 
 // The MAC of the session authenticate of a user, under the hash of the user's password.
