@@ -18,10 +18,6 @@ three a b d out k q r la lb ld =
     let l3 : length (a ++ b ++ d) ≡ r = simp length-append (omega arith) in
     cc
 
--- two parts that fill the output
-pub two : (a b out : List ℕ) (k e : ℕ) → length a ≡ k → k + length b ≡ e → length out ≡ e → put_mid k (e - k) (a ++ drop k out) b ≡ a ++ b
-two a b out k e la lb lo = grow a b out k e la lb ∙ ap (λ (l : List ℕ). (a ++ b) ++ l) (drop_all e out (omega arith)) ∙ append-nil (a ++ b)
-
 pub four : (a b x d out : List ℕ) (k q r e : ℕ) → length a ≡ k → k + length b ≡ q → q + length x ≡ r → r + length d ≡ e
     → put_mid r (e - r) (put_mid q (r - q) (put_mid k (q - k) (a ++ drop k out) b) x) d ≡ over (a ++ b ++ x ++ d) out
 four a b x d out k q r e la lb lx ld =

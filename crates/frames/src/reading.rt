@@ -15,12 +15,13 @@ ghost use Rattle.frames.specs.Reading.{
   wrapper_shape,
 };
 
-use crate::headers::{part_at, stated_kind};
+use crate::headers::stated_kind;
 use crate::kinds::Kind;
 use crate::stamps::Stamp;
 use crate::{LARGEST_FRAME, NOTICE_LENGTH, REQUEST_LENGTH, SMALLEST_WRAPPER};
 use cipher::Block;
-use octets::numbers::u16_at;
+use octets::numbers::number_at;
+use octets::runs::part_at;
 use sealer::Nonce;
 
 // A secure wrapper, of a session or of the group. Its parts are lent from the octets that arrived.
@@ -78,7 +79,7 @@ fn read_wrapper(frame: &[u8]) -> Result<Frame, Unreadable>
     }
     let end = frame.len() - 16;
     Ok(Frame::Wrapper(Wrapper {
-        session: u16_at(frame, 6),
+        session: number_at(frame, 6),
         stamp: Stamp::at(frame, 8),
         associated: part_at(frame, 0),
         nonce: part_at(frame, 8),

@@ -24,11 +24,7 @@ use octets::runs::xor_into;
 use sealer::{LARGEST_TELEGRAM, Nonce, Sealer};
 
 // A timer notify, put to the front of the output if that has the room.
-pub fn seal_notice<S: Sealer>(
-    key: &Block,
-    stamp: Stamp,
-    out: &mut [u8],
-) -> Option<usize>
+pub fn seal_notice<S: Sealer>(key: &Block, stamp: Stamp, out: &mut [u8]) -> Option<usize>
     ensures length { result ≡ room notice_length out.old }
     ensures out { out.new ≡ left result (sealed_notice S.Sealer.mac key.now stamp.number stamp.serial stamp.tag) out.old }
 {

@@ -3,7 +3,7 @@ ghost use Rattle.std.specs.Prelude.{◌≡◌, ◌+◌, ◌^◌, ◌<◌, ◌≤
 ghost use Rattle.frames.specs.Writing.{nonce};
 ghost use Rattle.octets.specs.Runs.{number};
 
-use octets::numbers::{octets_of_u16, octets_of_u48, u16_at, u48_at};
+use octets::numbers::{Number, number_at};
 use sealer::Nonce;
 
 // Which frame it is, and whose. Of number and serial the low 48 bits count.
@@ -20,9 +20,9 @@ impl Stamp {
     pub(crate) fn nonce(self) -> Nonce
         ensures { result ≡ nonce self.number self.serial self.tag }
     {
-        let [n0, n1, n2, n3, n4, n5] = octets_of_u48(self.number);
-        let [s0, s1, s2, s3, s4, s5] = octets_of_u48(self.serial);
-        let [t0, t1] = octets_of_u16(self.tag);
+        let [n0, n1, n2, n3, n4, n5]: [u8; 6] = self.number.octets();
+        let [s0, s1, s2, s3, s4, s5]: [u8; 6] = self.serial.octets();
+        let [t0, t1]: [u8; 2] = self.tag.octets();
         [n0, n1, n2, n3, n4, n5, s0, s1, s2, s3, s4, s5, t0, t1]
     }
 
@@ -36,9 +36,9 @@ impl Stamp {
         ensures serial_below { result.serial < 2 ^ 48 }
     {
         Stamp {
-            number: u48_at(frame, at),
-            serial: u48_at(frame, at + 6),
-            tag: u16_at(frame, at + 12),
+            number: number_at(frame, at),
+            serial: number_at(frame, at + 6),
+            tag: number_at(frame, at + 12),
         }
     }
 }

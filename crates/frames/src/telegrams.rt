@@ -2,10 +2,11 @@
 ghost use Rattle.frames.specs.Telegrams.{good_family, sign_in, signed, telegram_kind};
 ghost use Rattle.std.specs.Prelude.{◌≡◌};
 
-use crate::headers::{part_at, stated_kind};
-use crate::kinds::Kind;
 use crate::AUTHENTICATE_LENGTH;
+use crate::headers::stated_kind;
+use crate::kinds::Kind;
 use cipher::Block;
+use octets::runs::part_at;
 use sealer::LARGEST_TELEGRAM;
 
 #[derive(Clone, Copy, PartialEq, Eq)]

@@ -18,15 +18,15 @@ use crate::kinds::Kind;
 use crate::{
     AUTHENTICATE_LENGTH, NO_SESSION_LENGTH, NOTICE_LENGTH, RESPONSE_LENGTH, STATUS_LENGTH,
 };
-use octets::numbers::octets_of_u16;
+use octets::numbers::Number;
 
 // The six octets that every frame begins with.
 fn header(kind: Kind, size: usize) -> [u8; 6]
     requires { size ≤ largest_frame }
     ensures { result ≡ header (kind_number kind) size }
 {
-    let [kind_high, kind_low] = octets_of_u16(kind as u16);
-    let [size_high, size_low] = octets_of_u16(size as u16);
+    let [kind_high, kind_low]: [u8; 2] = (kind as u16).octets();
+    let [size_high, size_low]: [u8; 2] = (size as u16).octets();
     [0x06, 0x10, kind_high, kind_low, size_high, size_low]
 }
 
@@ -46,14 +46,14 @@ pub(crate) fn wrapper_lead(size: usize, session: u16) -> [u8; 8]
     requires { size ≤ largest_frame }
     ensures { result ≡ wrapper_lead size session }
 {
-    lead(Kind::Wrapper, size, octets_of_u16(session))
+    lead(Kind::Wrapper, size, session.octets())
 }
 
 #[tactic(auto, unfolding(crate::specs::Writing::response_lead))]
 pub(crate) fn response_lead(session: u16) -> [u8; 8]
     ensures { result ≡ response_lead session }
 {
-    lead(Kind::Response, RESPONSE_LENGTH, octets_of_u16(session))
+    lead(Kind::Response, RESPONSE_LENGTH, session.octets())
 }
 
 #[tactic(auto, unfolding(crate::specs::Writing::authenticate_lead))]
