@@ -1,9 +1,8 @@
 -- One turn of the loop over the rounds and of the loop over the round keys, and their ends. Assumes nothing.
-use Rattle.std.proofs.Common.{◌≡◌, ℕ, zero, suc, ◌+◌, ◌<◌, List, [], ◌++◌, length, get_or, set, map, replicate, take, drop, refl, sym, ap, ◌∙◌, add-one, arith, length-set}
+use Rattle.std.proofs.Common.{◌≡◌, ℕ, zero, suc, ◌+◌, ◌<◌, List, [], ◌++◌, length, get_or, set, map, replicate, take, drop, refl, sym, ◌∙◌, add-one, arith, length-set}
 use Rattle.std.proofs.lemmas.List.{length-append, length-map, length-take, length-drop, get_or_default, get_or-set_same}
-use Rattle.std.proofs.lemmas.List.Edits.{fill_by_more, map_over_more}
-use Rattle.std.proofs.lemmas.List.FromFn.{fill_by_all}
-use Rattle.cipher.specs.Aes.{round, last_round, add_round_key, after, rounds, next_key, round_constant, round_key, schedule}
+use Rattle.std.proofs.lemmas.List.Edits.{map_over_more}
+use Rattle.cipher.specs.Aes.{next_key, round_constant, round_key, schedule}
 use Rattle.cipher.specs.Sbox.{sub}
 
 -- one more octet substituted; the first half is for `grind` to find it by
@@ -12,13 +11,6 @@ sub_more i xs h =
     let s = map sub (take i xs) ++ drop i xs in
     let long : i < length s = simp (length-append, length-map, length-take, length-drop) (omega arith) in
     (refl, sym (map_over_more sub xs s i (get_or s i 0) h refl (get_or_default s i 0 (get_or s i 0) long)))
-
-pub round_more : (n : ℕ) (ks : List (List ℕ)) (s x y : List ℕ) → x ≡ after n ks s → y ≡ round x (get_or ks (n + 1) []) → y ≡ after (n + 1) ks s
-round_more n ks s x y e f = rw add-one (rw (e, add-one) at f)
-
-pub rounds_all : (n : ℕ) (ks : List (List ℕ)) (b s x y : List ℕ) → n ≡ 9 → s ≡ add_round_key b (get_or ks 0 []) → x ≡ after n ks s → y ≡ last_round x (get_or ks 10 []) → y ≡ rounds ks b
-unfolding rounds
-rounds_all n ks b s x y n9 e f g = rw (f, n9, e) at g
 
 -- the round keys where n of them are made, and the key stands in the others' places
 unfoldable pub keyed : List ℕ → ℕ → List (List ℕ)

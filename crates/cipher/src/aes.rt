@@ -113,6 +113,7 @@ fn mixed_column(a: u8, b: u8, c: u8, d: u8) -> Word
 pub fn mix_columns(s: &mut Block)
     ensures { s.new ≡ mix_columns s.old }
 {
+    // each octet by its name: of chunks that are written through, a proof knows nothing afterwards
     let [a0, a1, a2, a3] = mixed_column(s[0], s[1], s[2], s[3]);
     let [b0, b1, b2, b3] = mixed_column(s[4], s[5], s[6], s[7]);
     let [c0, c1, c2, c3] = mixed_column(s[8], s[9], s[10], s[11]);
@@ -126,14 +127,6 @@ pub fn add_round_key(s: &mut Block, key: &Block)
     ensures { s.new ≡ add_round_key s.old key.now }
 {
     xor_into(s, key);
-}
-
-// A round constant by its place, from 0 on.
-fn constant(n: usize) -> u8
-    requires { n < 10 }
-    ensures { result ≡ round_constant n }
-{
-    ROUND_CONSTANTS[n]
 }
 
 // Word 0 of the next round key.
@@ -163,14 +156,10 @@ fn xor_word(k: &Block, c: usize, before: Word) -> Word
 fn next_key(k: &Block, constant: u8) -> Block
     ensures { result ≡ next_key constant k.now }
 {
-    let a = first_word(k, constant);
-    let b = xor_word(k, 1, a);
-    let c = xor_word(k, 2, b);
-    let d = xor_word(k, 3, c);
-    let [a0, a1, a2, a3] = a;
-    let [b0, b1, b2, b3] = b;
-    let [c0, c1, c2, c3] = c;
-    let [d0, d1, d2, d3] = d;
+    let [a0, a1, a2, a3] = first_word(k, constant);
+    let [b0, b1, b2, b3] = xor_word(k, 1, [a0, a1, a2, a3]);
+    let [c0, c1, c2, c3] = xor_word(k, 2, [b0, b1, b2, b3]);
+    let [d0, d1, d2, d3] = xor_word(k, 3, [c0, c1, c2, c3]);
     [
         a0, a1, a2, a3, b0, b1, b2, b3, c0, c1, c2, c3, d0, d1, d2, d3,
     ]
@@ -206,10 +195,11 @@ fn final_round(s: &mut Block, last: &Block)
 }
 
 // Enciphers a block by eleven round keys.
-#[tactic(auto, using(std::proofs::lemmas::Grind::common_steps, crate::proofs::Rounds::round_more, crate::proofs::Rounds::rounds_all))]
+#[tactic(auto, unfolding(crate::specs::Aes::rounds))]
 pub fn encipher_by(keys: &[Block; 11], block: &mut Block)
     ensures { block.new ≡ rounds keys.now block.old }
 {
+    // in a copy, since on the caller's block it is slower; by indices, since the check stops at a pattern with `middle @ ..` here
     let mut s = *block;
     add_round_key(&mut s, &keys[0]);
     for key in &keys[1..10] {
@@ -220,7 +210,7 @@ pub fn encipher_by(keys: &[Block; 11], block: &mut Block)
 }
 
 // AES-128, whose prepared key is the eleven round keys.
-pub struct Aes128 {}
+pub struct Aes128;
 
 #[derive(Drop)]
 pub struct RoundKeys {
