@@ -1,4 +1,4 @@
--- One turn of the loop over the rounds and of the loop over the round keys, and their ends. Assumes nothing.
+-- One turn of the loops over octets and over round keys, and the end of the latter. Assumes nothing.
 use Rattle.std.proofs.Common.{◌≡◌, ℕ, zero, suc, ◌+◌, ◌<◌, List, [], ◌++◌, length, get_or, set, map, replicate, take, drop, refl, sym, ◌∙◌, add-one, arith, length-set}
 use Rattle.std.proofs.lemmas.List.{length-append, length-map, length-take, length-drop, get_or_default, get_or-set_same}
 use Rattle.std.proofs.lemmas.List.Edits.{map_over_more}

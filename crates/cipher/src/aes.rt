@@ -113,14 +113,13 @@ fn mixed_column(a: u8, b: u8, c: u8, d: u8) -> Word
 pub fn mix_columns(s: &mut Block)
     ensures { s.new ≡ mix_columns s.old }
 {
-    // each octet by its name: of chunks that are written through, a proof knows nothing afterwards
-    let [a0, a1, a2, a3] = mixed_column(s[0], s[1], s[2], s[3]);
-    let [b0, b1, b2, b3] = mixed_column(s[4], s[5], s[6], s[7]);
-    let [c0, c1, c2, c3] = mixed_column(s[8], s[9], s[10], s[11]);
-    let [d0, d1, d2, d3] = mixed_column(s[12], s[13], s[14], s[15]);
-    *s = [
-        a0, a1, a2, a3, b0, b1, b2, b3, c0, c1, c2, c3, d0, d1, d2, d3,
+    let columns = [
+        mixed_column(s[0], s[1], s[2], s[3]),
+        mixed_column(s[4], s[5], s[6], s[7]),
+        mixed_column(s[8], s[9], s[10], s[11]),
+        mixed_column(s[12], s[13], s[14], s[15]),
     ];
+    *s = *columns.as_flattened().as_array().unwrap();
 }
 
 pub fn add_round_key(s: &mut Block, key: &Block)
@@ -156,13 +155,11 @@ fn xor_word(k: &Block, c: usize, before: Word) -> Word
 fn next_key(k: &Block, constant: u8) -> Block
     ensures { result ≡ next_key constant k.now }
 {
-    let [a0, a1, a2, a3] = first_word(k, constant);
-    let [b0, b1, b2, b3] = xor_word(k, 1, [a0, a1, a2, a3]);
-    let [c0, c1, c2, c3] = xor_word(k, 2, [b0, b1, b2, b3]);
-    let [d0, d1, d2, d3] = xor_word(k, 3, [c0, c1, c2, c3]);
-    [
-        a0, a1, a2, a3, b0, b1, b2, b3, c0, c1, c2, c3, d0, d1, d2, d3,
-    ]
+    let a = first_word(k, constant);
+    let b = xor_word(k, 1, a);
+    let c = xor_word(k, 2, b);
+    let d = xor_word(k, 3, c);
+    *[a, b, c, d].as_flattened().as_array().unwrap()
 }
 
 // The eleven round keys of a key.
@@ -199,7 +196,7 @@ fn final_round(s: &mut Block, last: &Block)
 pub fn encipher_by(keys: &[Block; 11], block: &mut Block)
     ensures { block.new ≡ rounds keys.now block.old }
 {
-    // in a copy, since on the caller's block it is slower; by indices, since the check stops at a pattern with `middle @ ..` here
+    // in a copy, since on the caller's block it takes half as long again; by indices, since the check stops at `[first, middle @ .., last]` here
     let mut s = *block;
     add_round_key(&mut s, &keys[0]);
     for key in &keys[1..10] {
