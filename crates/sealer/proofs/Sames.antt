@@ -1,6 +1,7 @@
 -- Two runs compared octet by octet, with the decision at the end. Assumes nothing.
 use Rattle.std.proofs.Common.{◌≡◌, ℕ, Bool, true, false, ◌&&◌, eqb, List, [], ◌∷◌, length, sym, refl, ◌∙◌, ⊎_elim, arith}
 use lib.Bits.{bit_or, bit_xor, or_add_and, xor_add_and, and_le_l, and_le_r, xor_self}
+use Rattle.std.proofs.Math.Bool.{and_assoc, and-true}
 use Rattle.std.proofs.lemmas.Bool.{and_left, and_right, cases_eq, eq-eqb, ne_eqb}
 use Rattle.std.specs.List.{fold, zip}
 use Rattle.sealer.specs.Sealing.{same}
@@ -20,16 +21,8 @@ differ_none d x y = ⊎_elim
     (λ (p : d ≡ 0 → ⊥). ne_eqb _ 0 (λ e. p (or_none d (bit_xor x y) e).0) ∙ sym (and_left (eqb d 0) (eqb x y) (ne_eqb d 0 p)))
     (cases_eq d 0)
 
-and_assoc : (a b c : Bool) → (a && b) && c ≡ a && (b && c)
-and_assoc true b c = refl
-and_assoc false b c = refl
-
-and_true : (a : Bool) → a && true ≡ a
-and_true true = refl
-and_true false = refl
-
 folded : (d : ℕ) (a b : List ℕ) → length a ≡ length b → eqb (fold (λ d p. bit_or d (bit_xor p.0 p.1)) d (zip a b)) 0 ≡ eqb d 0 && same a b
-folded d [] [] e = sym (and_true (eqb d 0))
+folded d [] [] e = sym (and-true (eqb d 0))
 folded d [] (y ∷ b) e = absurd (omega arith)
 folded d (x ∷ a) [] e = absurd (omega arith)
 folded d (x ∷ a) (y ∷ b) e = folded (bit_or d (bit_xor x y)) a b (omega arith) ∙ rw (differ_none d x y) (and_assoc (eqb d 0) (eqb x y) (same a b))
