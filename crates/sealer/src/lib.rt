@@ -69,6 +69,7 @@ pub fn seal_and_open<S: Sealer>(
 }
 
 // Two frames worked by hand under the bench cipher hold of the definitions; there is nothing to compute.
+#[tactic(auto, unfolding(crate::specs::Counter::masked, crate::specs::Mac::mac_of, crate::specs::Mac::raw_mac, crate::specs::Mac::covered))]
 pub fn samples_hold()
     ensures notice { NoticeSample }
     ensures wrapper { WrapperSample }
