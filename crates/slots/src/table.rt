@@ -18,24 +18,14 @@ pub struct Table {
 fn place_of(rows: &[Slot], number: u16) -> Option<usize>
     ensures { Finds rows.now number result }
 {
-    for (i, slot) in rows.iter().enumerate() {
-        if slot.has(number) {
-            return Some(i);
-        }
-    }
-    None
+    rows.iter().position(|slot| slot.has(number))
 }
 
 // A place that is free.
 fn free_place(rows: &[Slot]) -> Option<usize>
     ensures { Frees rows.now (length rows.now) result }
 {
-    for (i, slot) in rows.iter().enumerate() {
-        if slot.is_free() {
-            return Some(i);
-        }
-    }
-    None
+    rows.iter().position(|slot| slot.is_free())
 }
 
 fn write(rows: &mut [Slot], at: usize, slot: Slot)
