@@ -20,7 +20,7 @@ pub enum State {
 
 #[derive(Clone, Copy)]
 pub struct Slot {
-    // 0: the row is free
+    // 0: the row is free. Not an Option: the table is a fixed form, and a freed row is written over whole, which an Option's None would not promise.
     pub number: u16,
     pub key: Block,
     // the values that were exchanged
