@@ -1,12 +1,12 @@
 -- Facts about a gateway's fields. Assumes nothing.
-use Rattle.std.proofs.Common.{◌≡◌, ℕ, ◌<◌, ◌≤◌, IfSome, true, false, List, Some, None, Err, Option, Result, sym, refl, ap, ◌∙◌, subst, arith}
+use Rattle.std.proofs.Common.{◌≡◌, ℕ, ◌≤◌, true, false, List, Some, None, Err, Option, Result, sym, refl, ap, ◌∙◌, subst, arith}
 use Rattle.std.proofs.lemmas.Bool.{cond-true, cond-false}
 use Rattle.octets.specs.Runs.{over}
 use Rattle.clock.specs.Times.{Small}
 use Rattle.frames.specs.Reading.{reading}
 use Rattle.frames.specs.declared.reading.Unreadable.{Unreadable}
 use Rattle.rules.specs.Calls.{Step, due, refuse}
-use Rattle.rules.specs.Limits.{last_time, slots}
+use Rattle.rules.specs.Limits.{last_time}
 use Rattle.rules.specs.Meaning.{Meaning}
 use Rattle.rules.specs.Rules.{arrived, unread}
 use Rattle.rules.specs.declared.answers.Answer.{Answer}
@@ -14,6 +14,8 @@ use Rattle.rules.specs.declared.answers.Refusal.{Refusal}
 use Rattle.rules.specs.declared.answers.Refusal.TheVariants.{Buffers}
 use Rattle.slots.proofs.Ruled.{lapsed_is_the_rule}
 use Rattle.slots.specs.Lapses as rows
+use Rattle.slots.specs.Places.{index_of}
+use Rattle.slots.specs.declared.place.Place.{Place}
 use Rattle.steps.specs.Cores.{Becomes, Does, model}
 use Rattle.steps.specs.Living.{Lapses}
 use Rattle.steps.specs.Buffers.{has_room, lending}
@@ -21,10 +23,10 @@ use Rattle.steps.specs.Steps.{arriving, carrying, falling_due, next_lapsed}
 use Rattle.steps.specs.declared.state.Core.{Core}
 
 -- which session lapsed, by its place
-pub first_lapsed_at : (c : Core) (o : Option ℕ) → rows.Lapses c.table.rows o → IfSome o (λ i. i < slots) → Lapses c o
+pub first_lapsed_at : (c : Core) (o : Option Place) → rows.Lapses c.table.rows (index_of o) → Lapses c o
 unfolding next_lapsed
-first_lapsed_at c None l w = sym (lapsed_is_the_rule (model c) c.table.rows) ∙ l
-first_lapsed_at c (Some i) l w = record { within = w; is = sym (lapsed_is_the_rule (model c) c.table.rows) ∙ l.is; session = l.found.session }
+first_lapsed_at c None l = sym (lapsed_is_the_rule (model c) c.table.rows) ∙ l
+first_lapsed_at c (Some at) l = record { is = sym (lapsed_is_the_rule (model c) c.table.rows) ∙ l.is; session = l.found.session }
 
 pub small_sent : (o : Option ℕ) → ((x : ℕ) → o ≡ Some x → x ≤ last_time) → Small o
 small_sent None f = tt

@@ -1,13 +1,10 @@
 // A frame that arrives, by what it is.
 ghost use Rattle.rules.specs.Meaning.{Meaning, meaning};
 ghost use Rattle.rules.specs.declared.settings.Settings.{Settings};
-ghost use Rattle.std.specs.Prelude.{◌≡◌, ◌≤◌, true, length};
+ghost use Rattle.std.specs.Prelude.{◌≡◌, ◌≤◌, length};
 ghost use Rattle.frames.specs.Limits.{largest_frame};
-ghost use Rattle.rules.specs.Fit.{Fit};
-ghost use Rattle.rules.specs.Making.{acceptable};
 ghost use Rattle.rules.specs.Rules.{unread};
-ghost use Rattle.slots.specs.Rows.{Distinct};
-ghost use Rattle.steps.specs.Cores.{Does, model};
+ghost use Rattle.steps.specs.Cores.{Does, Ready};
 ghost use Rattle.steps.specs.Steps.{arriving};
 
 use crate::received::{Notice, Wrapper};
@@ -36,9 +33,7 @@ impl Core {
         out: &mut [u8],
         work: &mut [u8],
     ) -> Result<Answer, Refusal>
-        requires accepted { acceptable self.old.settings ≡ true }
-        requires apart { Distinct self.old.table.rows }
-        requires fit { Fit (model self.old) }
+        requires ready { Ready self.old }
         requires room { largest_frame ≤ length out.old }
         requires area { largest_frame ≤ length work.old }
         ensures { Does (arriving (meaning S.Sealer) frame.now offer.now lot) self.old self.new result out.old out.new }

@@ -1,16 +1,14 @@
 // Frames of the group: those that arrive, and those that go out.
 ghost use Rattle.rules.specs.Meaning.{meaning};
-ghost use Rattle.std.specs.Prelude.{◌≡◌, ◌<◌, ◌≤◌, true, [], length};
+ghost use Rattle.std.specs.Prelude.{◌≡◌, ◌<◌, ◌≤◌, [], length};
 ghost use Rattle.frames.specs.Limits.{largest_frame};
 ghost use Rattle.frames.specs.Sealing.{wrapper};
 ghost use Rattle.octets.specs.Runs.{over};
-ghost use Rattle.rules.specs.Fit.{Fit};
 ghost use Rattle.rules.specs.GroupTime.{heard, next_time, tag_of, within};
 ghost use Rattle.rules.specs.Limits.{numbers};
-ghost use Rattle.rules.specs.Making.{acceptable, latency, own_serial};
+ghost use Rattle.rules.specs.Making.{latency, own_serial};
 ghost use Rattle.sealer.specs.Limits.{largest_telegram};
-ghost use Rattle.slots.specs.Rows.{Distinct};
-ghost use Rattle.steps.specs.Cores.{Becomes, Does, model};
+ghost use Rattle.steps.specs.Cores.{Becomes, Does, Ready, model};
 ghost use Rattle.steps.specs.Timed.{Timed};
 ghost use Rattle.steps.specs.Steps.{announcing, group_receiving, notifying, noticing};
 
@@ -28,9 +26,7 @@ use sealer::Sealer;
 impl Core {
     // A frame with its time, serial and tag: true where it is not late.
     fn hear(&mut self, time: u64, serial: u64, tag: u16, lot: u32) -> bool
-        requires accepted { acceptable self.old.settings ≡ true }
-        requires apart { Distinct self.old.table.rows }
-        requires timed { self.old.group.timer < numbers }
+        requires ready { Ready self.old }
         requires time { time < numbers }
         ensures goes { Becomes (heard self.old.settings (model self.old) time serial tag lot) self.old self.new }
         ensures answer { result ≡ within self.old.group.timer (latency self.old.settings) time }
@@ -48,9 +44,7 @@ impl Core {
         out: &mut [u8],
         work: &mut [u8],
     ) -> Result<Answer, Refusal>
-        requires accepted { acceptable self.old.settings ≡ true }
-        requires apart { Distinct self.old.table.rows }
-        requires timed { self.old.group.timer < numbers }
+        requires ready { Ready self.old }
         requires time { wrapper.number < numbers }
         requires small { length wrapper.ciphertext.now ≤ largest_telegram }
         requires room { largest_frame ≤ length out.old }
@@ -84,9 +78,7 @@ impl Core {
     }
 
     pub(crate) fn notice<S: Sealer>(&mut self, notice: Notice, lot: u32) -> Result<Answer, Refusal>
-        requires accepted { acceptable self.old.settings ≡ true }
-        requires apart { Distinct self.old.table.rows }
-        requires timed { self.old.group.timer < numbers }
+        requires ready { Ready self.old }
         requires time { notice.time < numbers }
         ensures { Does (noticing (meaning S.Sealer) notice.entry lot) self.old self.new result [] [] }
     {
@@ -107,7 +99,7 @@ impl Core {
 
     // The time that the next frame to the group bears.
     fn next_time(&self) -> u64
-        requires fit { Fit (model self.now) }
+        requires ready { Ready self.now }
         ensures { result ≡ next_time self.now.group.timer self.now.group.sent }
     {
         self.group.next_time()
@@ -120,7 +112,7 @@ impl Core {
         lot: u32,
         out: &mut [u8],
     ) -> Result<(usize, u64), Refusal>
-        requires fit { Fit (model self.now) }
+        requires ready { Ready self.now }
         requires small { length telegram.now ≤ largest_telegram }
         requires room { largest_frame ≤ length out.old }
         ensures { Timed (meaning S.Sealer) self.now.settings (next_time self.now.group.timer self.now.group.sent) lot telegram.now result out.old out.new }
@@ -149,8 +141,7 @@ impl Core {
         lot: u32,
         out: &mut [u8],
     ) -> Result<Answer, Refusal>
-        requires apart { Distinct self.old.table.rows }
-        requires fit { Fit (model self.old) }
+        requires ready { Ready self.old }
         requires room { largest_frame ≤ length out.old }
         ensures { Does (announcing (meaning S.Sealer) telegram.now lot) self.old self.new result out.old out.new }
     {
@@ -168,9 +159,7 @@ impl Core {
         lot: u32,
         out: &mut [u8],
     ) -> Result<Answer, Refusal>
-        requires accepted { acceptable self.old.settings ≡ true }
-        requires apart { Distinct self.old.table.rows }
-        requires fit { Fit (model self.old) }
+        requires ready { Ready self.old }
         requires room { largest_frame ≤ length out.old }
         ensures { Does (notifying (meaning S.Sealer) lot) self.old self.new result out.old out.new }
     {

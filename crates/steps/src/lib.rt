@@ -10,6 +10,7 @@ mod requests;
 mod sealed;
 mod sessions;
 pub mod state;
+mod statuses;
 mod times;
 mod wipe;
 mod wrappers;

@@ -5,8 +5,7 @@ ghost use Rattle.frames.specs.Limits.{largest_frame};
 ghost use Rattle.frames.specs.Writing.{no_session};
 ghost use Rattle.octets.specs.Runs.{over};
 ghost use Rattle.rules.specs.declared.answers.Answer.TheVariants as answer;
-ghost use Rattle.slots.specs.Rows.{Distinct};
-ghost use Rattle.steps.specs.Cores.{Does};
+ghost use Rattle.steps.specs.Cores.{Does, Ready};
 ghost use Rattle.steps.specs.Offers.{Offers};
 ghost use Rattle.steps.specs.Steps.{requesting};
 
@@ -64,13 +63,11 @@ impl Core {
         offer: &[u8],
         out: &mut [u8],
     ) -> Result<Answer, Refusal>
-        requires apart { Distinct self.old.table.rows }
+        requires ready { Ready self.old }
         requires room { largest_frame ≤ length out.old }
         ensures { Does (requesting (meaning S.Sealer) x.now offer.now) self.old self.new result out.old out.new }
     {
-        let Some(offer) = read_offer(offer) else {
-            return Err(Refusal::Offer);
-        };
+        let offer = read_offer(offer).ok_or(Refusal::Offer)?;
         if self.table.find(offer.session).is_some() {
             return Err(Refusal::Offer);
         }

@@ -1,11 +1,9 @@
 // Wrappers of a session that arrive.
 ghost use Rattle.rules.specs.Meaning.{meaning};
-ghost use Rattle.std.specs.Prelude.{◌≡◌, ◌<◌, ◌≤◌, length};
+ghost use Rattle.std.specs.Prelude.{◌≡◌, ◌≤◌, length};
 ghost use Rattle.frames.specs.Limits.{largest_frame};
-ghost use Rattle.rules.specs.Fit.{Fit};
 ghost use Rattle.sealer.specs.Limits.{largest_telegram};
-ghost use Rattle.slots.specs.Rows.{Distinct};
-ghost use Rattle.steps.specs.Cores.{Does, model};
+ghost use Rattle.steps.specs.Cores.{Does, Ready};
 ghost use Rattle.steps.specs.Opened.{Opens};
 ghost use Rattle.steps.specs.Steps.{opening, receiving};
 
@@ -43,8 +41,7 @@ impl Core {
         out: &mut [u8],
         work: &mut [u8],
     ) -> Result<Answer, Refusal>
-        requires fit { Fit (model self.old) }
-        requires apart { Distinct self.old.table.rows }
+        requires ready { Ready self.old }
         requires small { length wrapper.ciphertext.now ≤ largest_telegram }
         requires room { largest_frame ≤ length out.old }
         requires area { largest_frame ≤ length work.old }
