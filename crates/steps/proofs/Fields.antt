@@ -1,6 +1,5 @@
 -- Facts about a gateway's fields. Assumes nothing.
-use Rattle.std.proofs.Common.{◌≡◌, ℕ, ◌≤◌, true, false, List, Some, None, Err, Option, Result, sym, refl, ap, ◌∙◌, subst, arith}
-use Rattle.std.proofs.lemmas.Bool.{cond-true, cond-false}
+use Rattle.std.proofs.Common.{◌≡◌, ℕ, ◌≤◌, List, Some, None, Err, Option, Result, sym, refl, ap, ◌∙◌, subst, arith}
 use Rattle.octets.specs.Runs.{over}
 use Rattle.clock.specs.Times.{Small}
 use Rattle.frames.specs.Reading.{reading}
@@ -8,17 +7,16 @@ use Rattle.frames.specs.declared.reading.Unreadable.{Unreadable}
 use Rattle.rules.specs.Calls.{Step, due, refuse}
 use Rattle.rules.specs.Limits.{last_time}
 use Rattle.rules.specs.Meaning.{Meaning}
-use Rattle.rules.specs.Rules.{arrived, unread}
+use Rattle.rules.specs.Rules.{arrived, unread, with_room}
 use Rattle.rules.specs.declared.answers.Answer.{Answer}
 use Rattle.rules.specs.declared.answers.Refusal.{Refusal}
-use Rattle.rules.specs.declared.answers.Refusal.TheVariants.{Buffers}
 use Rattle.slots.proofs.Ruled.{lapsed_is_the_rule}
 use Rattle.slots.specs.Lapses as rows
 use Rattle.slots.specs.Places.{index_of}
 use Rattle.slots.specs.declared.place.Place.{Place}
 use Rattle.steps.specs.Cores.{Becomes, Does, model}
 use Rattle.steps.specs.Living.{Lapses}
-use Rattle.steps.specs.Buffers.{has_room, lending}
+use Rattle.steps.specs.Buffers.{lending}
 use Rattle.steps.specs.Steps.{arriving, carrying, falling_due, next_lapsed}
 use Rattle.steps.specs.declared.state.Core.{Core}
 
@@ -45,11 +43,7 @@ module _ (M : Meaning) (c : Core) where
       → refusal ≡ unread c.settings M why → Err why ≡ reading frame → refuse (model c) refusal ≡ arriving M frame offer lot c
   unread_is frame offer lot why refusal e rd = ap (refuse (model c)) e ∙ ap (arrived c.settings M (model c) offer lot) rd
 
-  -- due, where there is room and where there is none
-  pub due_with_room : (lot : ℕ) (out work : List ℕ) → has_room out work ≡ true → falling_due M lot c ≡ carrying M (due lot (lending out work)) c
+  -- due asks for room, and looks for a lapsed session under its shut name
+  pub due_is : (lot : ℕ) (out work : List ℕ) → carrying M (due lot (lending out work)) c ≡ with_room c.settings M (model c) (lending out work) (falling_due M lot c)
   unfolding next_lapsed
-  due_with_room lot out work h = sym (cond-true (has_room out work) (falling_due M lot c) (refuse (model c) Buffers) h)
-
-  pub due_without_room : (lot : ℕ) (out work : List ℕ) → has_room out work ≡ false → refuse (model c) Buffers ≡ carrying M (due lot (lending out work)) c
-  unfolding next_lapsed
-  due_without_room lot out work h = sym (cond-false (has_room out work) (falling_due M lot c) (refuse (model c) Buffers) h)
+  due_is lot out work = refl

@@ -1,7 +1,6 @@
 // What a telegram does that opened in a session.
 ghost use Rattle.rules.specs.Meaning.{meaning};
 ghost use Rattle.std.specs.Prelude.{◌≡◌, ◌≤◌, length};
-ghost use Rattle.frames.specs.Limits.{largest_frame};
 ghost use Rattle.rules.specs.Limits.{may_deliver};
 ghost use Rattle.rules.specs.Sessions.{signs_in};
 ghost use Rattle.sealer.specs.Limits.{largest_telegram};
@@ -13,6 +12,7 @@ ghost use Rattle.steps.specs.Steps.{acting, admitted, ended, gone_on, signing_in
 use crate::sessions::tell;
 use crate::state::Core;
 use crate::statuses::{CLOSE, Status};
+use frames::LARGEST_FRAME;
 use frames::sealing::mac_of_authenticate;
 use frames::telegrams::{Telegram, authenticate, classify};
 use octets::runs::put;
@@ -85,11 +85,10 @@ impl Core {
         at: Place,
         number: u64,
         telegram: &[u8],
-        out: &mut [u8],
+        out: &mut [u8; LARGEST_FRAME],
     ) -> Result<Answer, Refusal>
         requires ready { Ready self.old }
         requires stands { Standing self.old at }
-        requires room { largest_frame ≤ length out.old }
         ensures { Does (signing_in (meaning S.Sealer) at number telegram.now) self.old self.new result out.old out.new }
     {
         let slot = self.table.slot(at);
@@ -107,11 +106,10 @@ impl Core {
         at: Place,
         number: u64,
         telegram: &[u8],
-        out: &mut [u8],
+        out: &mut [u8; LARGEST_FRAME],
     ) -> Result<Answer, Refusal>
         requires ready { Ready self.old }
         requires stands { Standing self.old at }
-        requires room { largest_frame ≤ length out.old }
         requires small { length telegram.now ≤ largest_telegram }
         ensures { Does (acting (meaning S.Sealer) at number telegram.now) self.old self.new result out.old out.new }
     {

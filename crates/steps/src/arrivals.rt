@@ -2,13 +2,13 @@
 ghost use Rattle.rules.specs.Meaning.{Meaning, meaning};
 ghost use Rattle.rules.specs.declared.settings.Settings.{Settings};
 ghost use Rattle.std.specs.Prelude.{◌≡◌, ◌≤◌, length};
-ghost use Rattle.frames.specs.Limits.{largest_frame};
 ghost use Rattle.rules.specs.Rules.{unread};
 ghost use Rattle.steps.specs.Cores.{Does, Ready};
 ghost use Rattle.steps.specs.Steps.{arriving};
 
 use crate::received::{Notice, Wrapper};
 use crate::state::Core;
+use frames::LARGEST_FRAME;
 use frames::reading::{Frame, Unreadable, read};
 use rules::answers::{Answer, Refusal};
 use rules::limits::GROUP;
@@ -30,12 +30,10 @@ impl Core {
         frame: &[u8],
         offer: &[u8],
         lot: u32,
-        out: &mut [u8],
-        work: &mut [u8],
+        out: &mut [u8; LARGEST_FRAME],
+        work: &mut [u8; LARGEST_FRAME],
     ) -> Result<Answer, Refusal>
         requires ready { Ready self.old }
-        requires room { largest_frame ≤ length out.old }
-        requires area { largest_frame ≤ length work.old }
         ensures { Does (arriving (meaning S.Sealer) frame.now offer.now lot) self.old self.new result out.old out.new }
     {
         let frame = match read(frame) {

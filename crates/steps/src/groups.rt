@@ -1,7 +1,6 @@
 // Frames of the group: those that arrive, and those that go out.
 ghost use Rattle.rules.specs.Meaning.{meaning};
 ghost use Rattle.std.specs.Prelude.{◌≡◌, ◌<◌, ◌≤◌, [], length};
-ghost use Rattle.frames.specs.Limits.{largest_frame};
 ghost use Rattle.frames.specs.Sealing.{wrapper};
 ghost use Rattle.octets.specs.Runs.{over};
 ghost use Rattle.rules.specs.GroupTime.{heard, next_time, tag_of, within};
@@ -17,6 +16,7 @@ use crate::sealed::{notify, wrap};
 use crate::sessions::is_good;
 use crate::state::Core;
 use crate::wrappers::open;
+use frames::LARGEST_FRAME;
 use frames::opening::notice_opens;
 use octets::runs::put;
 use rules::answers::{Answer, Refusal};
@@ -41,14 +41,12 @@ impl Core {
         &mut self,
         wrapper: Wrapper,
         lot: u32,
-        out: &mut [u8],
-        work: &mut [u8],
+        out: &mut [u8; LARGEST_FRAME],
+        work: &mut [u8; LARGEST_FRAME],
     ) -> Result<Answer, Refusal>
         requires ready { Ready self.old }
         requires time { wrapper.number < numbers }
         requires small { length wrapper.ciphertext.now ≤ largest_telegram }
-        requires room { largest_frame ≤ length out.old }
-        requires area { largest_frame ≤ length work.old }
         ensures { Does (group_receiving (meaning S.Sealer) wrapper.entry lot) self.old self.new result out.old out.new }
     {
         let Wrapper {
@@ -110,11 +108,10 @@ impl Core {
         &self,
         telegram: &[u8],
         lot: u32,
-        out: &mut [u8],
+        out: &mut [u8; LARGEST_FRAME],
     ) -> Result<(usize, u64), Refusal>
         requires ready { Ready self.now }
         requires small { length telegram.now ≤ largest_telegram }
-        requires room { largest_frame ≤ length out.old }
         ensures { Timed (meaning S.Sealer) self.now.settings (next_time self.now.group.timer self.now.group.sent) lot telegram.now result out.old out.new }
     {
         let time = self.next_time();
@@ -139,10 +136,9 @@ impl Core {
         &mut self,
         telegram: &[u8],
         lot: u32,
-        out: &mut [u8],
+        out: &mut [u8; LARGEST_FRAME],
     ) -> Result<Answer, Refusal>
         requires ready { Ready self.old }
-        requires room { largest_frame ≤ length out.old }
         ensures { Does (announcing (meaning S.Sealer) telegram.now lot) self.old self.new result out.old out.new }
     {
         if !is_good(telegram) {
@@ -157,10 +153,9 @@ impl Core {
     pub(crate) fn notify_due<S: Sealer>(
         &mut self,
         lot: u32,
-        out: &mut [u8],
+        out: &mut [u8; LARGEST_FRAME],
     ) -> Result<Answer, Refusal>
         requires ready { Ready self.old }
-        requires room { largest_frame ≤ length out.old }
         ensures { Does (notifying (meaning S.Sealer) lot) self.old self.new result out.old out.new }
     {
         let time = self.next_time();

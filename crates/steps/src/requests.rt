@@ -1,7 +1,6 @@
 // Session requests.
 ghost use Rattle.rules.specs.Meaning.{meaning};
 ghost use Rattle.std.specs.Prelude.{◌≡◌, ◌≤◌, length, Ok};
-ghost use Rattle.frames.specs.Limits.{largest_frame};
 ghost use Rattle.frames.specs.Writing.{no_session};
 ghost use Rattle.octets.specs.Runs.{over};
 ghost use Rattle.rules.specs.declared.answers.Answer.TheVariants as answer;
@@ -12,6 +11,7 @@ ghost use Rattle.steps.specs.Steps.{requesting};
 use crate::sealed::respond;
 use crate::state::Core;
 use cipher::Block;
+use frames::LARGEST_FRAME;
 use frames::headers::part_at;
 use frames::writing::refuse_session;
 use octets::numbers::u16_at;
@@ -47,8 +47,7 @@ fn read_offer(octets: &[u8]) -> Option<Offer>
 }
 
 // There is no free slot.
-fn decline(out: &mut [u8]) -> Result<Answer, Refusal>
-    requires room { largest_frame ≤ length out.old }
+fn decline(out: &mut [u8; LARGEST_FRAME]) -> Result<Answer, Refusal>
     ensures answer { result ≡ Ok (answer.Frame (length no_session)) }
     ensures out { out.new ≡ over no_session out.old }
 {
@@ -61,10 +60,9 @@ impl Core {
         &mut self,
         x: &[u8; 32],
         offer: &[u8],
-        out: &mut [u8],
+        out: &mut [u8; LARGEST_FRAME],
     ) -> Result<Answer, Refusal>
         requires ready { Ready self.old }
-        requires room { largest_frame ≤ length out.old }
         ensures { Does (requesting (meaning S.Sealer) x.now offer.now) self.old self.new result out.old out.new }
     {
         let offer = read_offer(offer).ok_or(Refusal::Offer)?;

@@ -1,12 +1,12 @@
 // Frames that go out, into an output that has the room for every frame.
 ghost use Rattle.rules.specs.Meaning.{meaning};
 ghost use Rattle.std.specs.Prelude.{◌≡◌, ◌≤◌, length, Ok};
-ghost use Rattle.frames.specs.Limits.{largest_frame};
 ghost use Rattle.frames.specs.Sealing.{sealed_notice, sealed_response, wrapper};
 ghost use Rattle.octets.specs.Runs.{over};
 ghost use Rattle.sealer.specs.Limits.{largest_telegram};
 
 use cipher::Block;
+use frames::LARGEST_FRAME;
 use frames::sealing::{seal_notice, seal_response, seal_wrapper};
 use rules::answers::Refusal;
 use sealer::Sealer;
@@ -18,10 +18,9 @@ pub(crate) fn wrap<S: Sealer>(
     serial: u64,
     tag: u16,
     telegram: &[u8],
-    out: &mut [u8],
+    out: &mut [u8; LARGEST_FRAME],
 ) -> Result<usize, Refusal>
     requires small { length telegram.now ≤ largest_telegram }
-    requires room { largest_frame ≤ length out.old }
     ensures length { result ≡ Ok (length (wrapper (meaning S.Sealer).ciphertext (meaning S.Sealer).mac key.now session number serial tag telegram.now)) }
     ensures out { out.new ≡ over (wrapper (meaning S.Sealer).ciphertext (meaning S.Sealer).mac key.now session number serial tag telegram.now) out.old }
 {
@@ -33,9 +32,8 @@ pub(crate) fn notify<S: Sealer>(
     time: u64,
     serial: u64,
     tag: u16,
-    out: &mut [u8],
+    out: &mut [u8; LARGEST_FRAME],
 ) -> Result<usize, Refusal>
-    requires room { largest_frame ≤ length out.old }
     ensures length { result ≡ Ok (length (sealed_notice (meaning S.Sealer).mac key.now time serial tag)) }
     ensures out { out.new ≡ over (sealed_notice (meaning S.Sealer).mac key.now time serial tag) out.old }
 {
@@ -47,9 +45,8 @@ pub(crate) fn respond<S: Sealer>(
     session: u16,
     x: &[u8; 32],
     y: &[u8; 32],
-    out: &mut [u8],
+    out: &mut [u8; LARGEST_FRAME],
 ) -> Result<usize, Refusal>
-    requires room { largest_frame ≤ length out.old }
     ensures length { result ≡ Ok (length (sealed_response (meaning S.Sealer).mac key.now session x.now y.now)) }
     ensures out { out.new ≡ over (sealed_response (meaning S.Sealer).mac key.now session x.now y.now) out.old }
 {

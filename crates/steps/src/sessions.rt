@@ -1,7 +1,6 @@
 // Sessions: found, told a status, ended, sent to.
 ghost use Rattle.rules.specs.Meaning.{meaning};
 ghost use Rattle.std.specs.Prelude.{◌≡◌, ◌≤◌, true, length, Ok};
-ghost use Rattle.frames.specs.Limits.{largest_frame};
 ghost use Rattle.frames.specs.Writing as writing;
 ghost use Rattle.octets.specs.Runs.{over};
 ghost use Rattle.frames.specs.Telegrams.{is_good};
@@ -18,6 +17,7 @@ use crate::sealed::wrap;
 use crate::state::Core;
 use crate::statuses::Status;
 use clock::group::LAST_TIME;
+use frames::LARGEST_FRAME;
 use frames::telegrams::family;
 use frames::writing::status_telegram;
 use rules::answers::{Answer, Refusal};
@@ -31,10 +31,9 @@ fn seal_own<S: Sealer>(
     settings: &Settings,
     slot: &Slot,
     telegram: &[u8],
-    out: &mut [u8],
+    out: &mut [u8; LARGEST_FRAME],
 ) -> Result<(usize, u64), Refusal>
     requires small { length telegram.now ≤ largest_telegram }
-    requires room { largest_frame ≤ length out.old }
     ensures answer { result ≡ Ok (length (own_wrapper settings.now (meaning S.Sealer) slot.now.number (session_of slot.now) telegram.now), slot.now.own) }
     ensures out { out.new ≡ over (own_wrapper settings.now (meaning S.Sealer) slot.now.number (session_of slot.now) telegram.now) out.old }
 {
@@ -48,9 +47,8 @@ pub(crate) fn tell<S: Sealer>(
     settings: &Settings,
     slot: &Slot,
     status: Status,
-    out: &mut [u8],
+    out: &mut [u8; LARGEST_FRAME],
 ) -> Result<Answer, Refusal>
-    requires room { largest_frame ≤ length out.old }
     ensures answer { result ≡ Ok (answer.Frame (length (own_wrapper settings.now (meaning S.Sealer) slot.now.number (session_of slot.now) (writing.status (number_of status))))) }
     ensures out { out.new ≡ over (own_wrapper settings.now (meaning S.Sealer) slot.now.number (session_of slot.now) (writing.status (number_of status))) out.old }
 {
@@ -83,10 +81,9 @@ impl Core {
         &mut self,
         at: Place,
         status: Status,
-        out: &mut [u8],
+        out: &mut [u8; LARGEST_FRAME],
     ) -> Result<Answer, Refusal>
         requires ready { Ready self.old }
-        requires room { largest_frame ≤ length out.old }
         ensures { Does (ending (meaning S.Sealer) at (number_of status)) self.old self.new result out.old out.new }
     {
         let slot = self.table.slot(at);
@@ -98,10 +95,9 @@ impl Core {
     pub(crate) fn hung_up<S: Sealer>(
         &mut self,
         session: u16,
-        out: &mut [u8],
+        out: &mut [u8; LARGEST_FRAME],
     ) -> Result<Answer, Refusal>
         requires ready { Ready self.old }
-        requires room { largest_frame ≤ length out.old }
         ensures { Does (hanging_up (meaning S.Sealer) session) self.old self.new result out.old out.new }
     {
         let at = self.live(session)?;
@@ -112,12 +108,11 @@ impl Core {
         &mut self,
         at: Place,
         telegram: &[u8],
-        out: &mut [u8],
+        out: &mut [u8; LARGEST_FRAME],
     ) -> Result<Answer, Refusal>
         requires ready { Ready self.old }
         requires stands { Standing self.old at }
         requires small { length telegram.now ≤ largest_telegram }
-        requires room { largest_frame ≤ length out.old }
         ensures { Does (sending_at (meaning S.Sealer) at telegram.now) self.old self.new result out.old out.new }
     {
         let slot = self.table.slot(at);
@@ -137,10 +132,9 @@ impl Core {
         &mut self,
         session: u16,
         telegram: &[u8],
-        out: &mut [u8],
+        out: &mut [u8; LARGEST_FRAME],
     ) -> Result<Answer, Refusal>
         requires ready { Ready self.old }
-        requires room { largest_frame ≤ length out.old }
         ensures { Does (sending (meaning S.Sealer) session telegram.now) self.old self.new result out.old out.new }
     {
         let at = self.live(session)?;

@@ -1,7 +1,6 @@
 // What time brings: waiting, sessions that lapse, timer notifies.
 ghost use Rattle.rules.specs.Meaning.{meaning};
 ghost use Rattle.std.specs.Prelude.{◌≡◌, ◌≤◌, length};
-ghost use Rattle.frames.specs.Limits.{largest_frame};
 ghost use Rattle.slots.specs.Rows.{Distinct};
 ghost use Rattle.steps.specs.Cores.{Becomes, Does, Ready};
 ghost use Rattle.steps.specs.Living.{Lapses};
@@ -9,6 +8,7 @@ ghost use Rattle.steps.specs.Steps.{falling_due, waited};
 
 use crate::state::Core;
 use crate::statuses::Status;
+use frames::LARGEST_FRAME;
 use rules::answers::{Answer, Refusal};
 use sealer::Sealer;
 use slots::place::Place;
@@ -31,9 +31,12 @@ impl Core {
     }
 
     // The lapsed session with the smallest number ends; with none lapsed, a timer notify may be due.
-    pub(crate) fn due_now<S: Sealer>(&mut self, lot: u32, out: &mut [u8]) -> Result<Answer, Refusal>
+    pub(crate) fn due_now<S: Sealer>(
+        &mut self,
+        lot: u32,
+        out: &mut [u8; LARGEST_FRAME],
+    ) -> Result<Answer, Refusal>
         requires ready { Ready self.old }
-        requires room { largest_frame ≤ length out.old }
         ensures { Does (falling_due (meaning S.Sealer) lot) self.old self.new result out.old out.new }
     {
         match self.first_lapsed() {

@@ -1,7 +1,6 @@
 // Wrappers of a session that arrive.
 ghost use Rattle.rules.specs.Meaning.{meaning};
 ghost use Rattle.std.specs.Prelude.{◌≡◌, ◌≤◌, length};
-ghost use Rattle.frames.specs.Limits.{largest_frame};
 ghost use Rattle.sealer.specs.Limits.{largest_telegram};
 ghost use Rattle.steps.specs.Cores.{Does, Ready};
 ghost use Rattle.steps.specs.Opened.{Opens};
@@ -10,6 +9,7 @@ ghost use Rattle.steps.specs.Steps.{opening, receiving};
 use crate::received::Wrapper;
 use crate::state::Core;
 use cipher::Block;
+use frames::LARGEST_FRAME;
 use frames::opening::open_wrapper;
 use rules::answers::{Answer, Refusal};
 use sealer::Sealer;
@@ -18,10 +18,9 @@ use sealer::Sealer;
 pub(crate) fn open<S: Sealer>(
     key: &Block,
     wrapper: Wrapper,
-    work: &mut [u8],
+    work: &mut [u8; LARGEST_FRAME],
 ) -> Result<usize, Refusal>
     requires small { length wrapper.ciphertext.now ≤ largest_telegram }
-    requires room { largest_frame ≤ length work.old }
     ensures { Opens (opening (meaning S.Sealer) key.now wrapper.entry) work.new result }
 {
     let Wrapper {
@@ -38,13 +37,11 @@ impl Core {
     pub(crate) fn session_wrapper<S: Sealer>(
         &mut self,
         wrapper: Wrapper,
-        out: &mut [u8],
-        work: &mut [u8],
+        out: &mut [u8; LARGEST_FRAME],
+        work: &mut [u8; LARGEST_FRAME],
     ) -> Result<Answer, Refusal>
         requires ready { Ready self.old }
         requires small { length wrapper.ciphertext.now ≤ largest_telegram }
-        requires room { largest_frame ≤ length out.old }
-        requires area { largest_frame ≤ length work.old }
         ensures { Does (receiving (meaning S.Sealer) wrapper.entry) self.old self.new result out.old out.new }
     {
         let at = self.live(wrapper.session)?;
