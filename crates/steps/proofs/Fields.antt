@@ -1,13 +1,11 @@
 -- Facts about a gateway's fields. Assumes nothing.
-use Rattle.std.proofs.Common.{◌≡◌, ℕ, ◌≤◌, List, Some, None, Err, Option, Result, sym, refl, ap, ◌∙◌, subst, arith}
+use Rattle.std.proofs.Common.{◌≡◌, ℕ, ◌≤◌, List, Some, None, Option, Result, sym, refl, ap, ◌∙◌, subst, arith}
 use Rattle.octets.specs.Runs.{over}
 use Rattle.clock.specs.Times.{Small}
-use Rattle.frames.specs.Reading.{reading}
-use Rattle.frames.specs.declared.reading.Unreadable.{Unreadable}
-use Rattle.rules.specs.Calls.{Step, due, refuse}
+use Rattle.rules.specs.Calls.{Step, due}
 use Rattle.rules.specs.Limits.{last_time}
 use Rattle.rules.specs.Meaning.{Meaning}
-use Rattle.rules.specs.Rules.{arrived, unread, with_room}
+use Rattle.rules.specs.Rules.{with_room}
 use Rattle.rules.specs.declared.answers.Answer.{Answer}
 use Rattle.rules.specs.declared.answers.Refusal.{Refusal}
 use Rattle.slots.proofs.Ruled.{lapsed_is_the_rule}
@@ -17,7 +15,7 @@ use Rattle.slots.specs.declared.place.Place.{Place}
 use Rattle.steps.specs.Cores.{Becomes, Does, model}
 use Rattle.steps.specs.Living.{Lapses}
 use Rattle.steps.specs.Buffers.{lending}
-use Rattle.steps.specs.Steps.{arriving, carrying, falling_due, next_lapsed}
+use Rattle.steps.specs.Steps.{carrying, falling_due, next_lapsed}
 use Rattle.steps.specs.declared.state.Core.{Core}
 
 -- which session lapsed, by its place
@@ -38,11 +36,6 @@ does_same s t before after answer out out' e d =
     { answers = d.answers ∙ ap (λ (r : Step). r.answer) e; goes = subst (λ (r : Step). Becomes r.to before after) e d.goes; writes = d.writes ∙ ap (λ (r : Step). over r.written out) e }
 
 module _ (M : Meaning) (c : Core) where
-  -- a frame that cannot be read is refused
-  pub unread_is : (frame offer : List ℕ) (lot : ℕ) (why : Unreadable) (refusal : Refusal)
-      → refusal ≡ unread c.settings M why → Err why ≡ reading frame → refuse (model c) refusal ≡ arriving M frame offer lot c
-  unread_is frame offer lot why refusal e rd = ap (refuse (model c)) e ∙ ap (arrived c.settings M (model c) offer lot) rd
-
   -- due asks for room, and looks for a lapsed session under its shut name
   pub due_is : (lot : ℕ) (out work : List ℕ) → carrying M (due lot (lending out work)) c ≡ with_room c.settings M (model c) (lending out work) (falling_due M lot c)
   unfolding next_lapsed

@@ -1,8 +1,8 @@
 -- The rules at the fields of a gateway. A session is given by its place in the table, or by its number. Assumes nothing.
 use Rattle.std.specs.Prelude.{ℕ, ◌+◌, ◌-◌, min, List, [], Some, None, Option}
 use Rattle.frames.specs.Reading.{reading}
-use Rattle.steps.specs.declared.received.Notice.{Notice}
-use Rattle.steps.specs.declared.received.Wrapper.{Wrapper}
+use Rattle.frames.specs.declared.reading.Notice.{Notice}
+use Rattle.frames.specs.declared.reading.Wrapper.{Wrapper}
 use Rattle.frames.specs.Telegrams.{telegram_kind}
 use Rattle.rules.specs.Calls.{Call, Step}
 use Rattle.rules.specs.Limits.{last_time}
@@ -82,18 +82,18 @@ module _ (M : Meaning) where
   opening key w = M.opened key w.nonce.now w.associated.now w.ciphertext.now w.mac.now
 
   abbrev pub receiving : Wrapper → Core → Step
-  receiving w c = rule.wrapper_of c.settings M (model c) w.session w.number w.serial (λ s. opening s.key w) (found c w.session)
+  receiving w c = rule.wrapper_of c.settings M (model c) w.session w.stamp.number w.stamp.serial (λ s. opening s.key w) (found c w.session)
 
   abbrev pub requesting : List ℕ → List ℕ → Core → Step
   requesting x offer c = rule.requested c.settings M (model c) x offer
 
   -- frames of the group
   abbrev pub group_receiving : Wrapper → ℕ → Core → Step
-  group_receiving w lot c = rule.group_wrapper c.settings M (model c) w.number w.serial w.tag lot (opening c.settings.group w)
+  group_receiving w lot c = rule.group_wrapper c.settings M (model c) w.stamp.number w.stamp.serial w.stamp.tag lot (opening c.settings.group w)
 
   abbrev pub noticing : Notice → ℕ → Core → Step
   noticing n lot c =
-      rule.noticed c.settings M (model c) n.time n.serial n.tag lot (M.opened c.settings.group n.nonce.now n.associated.now [] n.mac.now)
+      rule.noticed c.settings M (model c) n.stamp.number n.stamp.serial n.stamp.tag lot (M.opened c.settings.group n.nonce.now n.associated.now [] n.mac.now)
 
   abbrev pub announcing : List ℕ → ℕ → Core → Step
   announcing t lot c = rule.announced c.settings M (model c) t lot

@@ -23,7 +23,7 @@ use sealer::mac::same_mac;
 use slots::place::Place;
 use slots::slot::{Slot, State};
 
-// Telegrams of this family manage the installation.
+// Telegrams of this family manage the installation. A number and no enum: families are an open set.
 const MANAGEMENT: u8 = 0x03;
 
 // User 1 manages.
@@ -40,11 +40,7 @@ fn signs_in<S: Sealer>(settings: &Settings, slot: &Slot, telegram: &[u8]) -> Opt
     let given = authenticate(telegram)?;
     let hash = settings.hash_of(given.user)?;
     let made = mac_of_authenticate::<S>(&hash, given.user, &slot.x, &slot.y);
-    if same_mac(given.mac, &made) {
-        Some(given.user)
-    } else {
-        None
-    }
+    same_mac(given.mac, &made).then_some(given.user)
 }
 
 impl Core {

@@ -11,29 +11,28 @@ ghost use Rattle.steps.specs.Cores.{Becomes, Does, Ready, model};
 ghost use Rattle.steps.specs.Timed.{Timed};
 ghost use Rattle.steps.specs.Steps.{announcing, group_receiving, notifying, noticing};
 
-use crate::received::{Notice, Wrapper};
 use crate::sealed::{notify, wrap};
 use crate::sessions::is_good;
 use crate::state::Core;
 use crate::wrappers::open;
 use frames::LARGEST_FRAME;
-use frames::opening::notice_opens;
+use frames::reading::{Notice, Wrapper};
+use frames::stamps::Stamp;
 use octets::runs::put;
 use rules::answers::{Answer, Refusal};
 use rules::limits::{GROUP, GROUP_USER, NUMBERS};
 use sealer::Sealer;
 
 impl Core {
-    // A frame with its time, serial and tag: true where it is not late.
-    fn hear(&mut self, time: u64, serial: u64, tag: u16, lot: u32) -> bool
+    // A frame with its stamp: true where it is not late.
+    fn hear(&mut self, stamp: Stamp, lot: u32) -> bool
         requires ready { Ready self.old }
-        requires time { time < numbers }
-        ensures goes { Becomes (heard self.old.settings (model self.old) time serial tag lot) self.old self.new }
-        ensures answer { result ≡ within self.old.group.timer (latency self.old.settings) time }
+        requires time { stamp.number < numbers }
+        ensures goes { Becomes (heard self.old.settings (model self.old) stamp.number stamp.serial stamp.tag lot) self.old self.new }
+        ensures answer { result ≡ within self.old.group.timer (latency self.old.settings) stamp.number }
     {
-        let latency = self.settings.latency();
-        let sync = self.settings.sync();
-        self.group.heard(latency, sync, time, serial, tag, lot)
+        let tolerances = self.settings.tolerances();
+        self.group.heard(tolerances, stamp, lot)
     }
 
     // A late wrapper is taken, any other is delivered.
@@ -45,17 +44,11 @@ impl Core {
         work: &mut [u8; LARGEST_FRAME],
     ) -> Result<Answer, Refusal>
         requires ready { Ready self.old }
-        requires time { wrapper.number < numbers }
+        requires time { wrapper.stamp.number < numbers }
         requires small { length wrapper.ciphertext.now ≤ largest_telegram }
         ensures { Does (group_receiving (meaning S.Sealer) wrapper.entry lot) self.old self.new result out.old out.new }
     {
-        let Wrapper {
-            number,
-            serial,
-            tag,
-            ..
-        } = wrapper;
-        if serial == self.settings.own_serial() {
+        if wrapper.stamp.serial == self.settings.own_serial() {
             return Err(Refusal::OwnSerial);
         }
         let length = open::<S>(&self.settings.group, wrapper, work)?;
@@ -63,13 +56,13 @@ impl Core {
         if !is_good(telegram) {
             return Err(Refusal::Telegram);
         }
-        if !self.hear(number, serial, tag, lot) {
+        if !self.hear(wrapper.stamp, lot) {
             return Ok(Answer::Taken);
         }
         put(out, 0, telegram);
         Ok(Answer::Delivered {
             session: GROUP,
-            number,
+            number: wrapper.stamp.number,
             user: GROUP_USER,
             length,
         })
@@ -77,21 +70,13 @@ impl Core {
 
     pub(crate) fn notice<S: Sealer>(&mut self, notice: Notice, lot: u32) -> Result<Answer, Refusal>
         requires ready { Ready self.old }
-        requires time { notice.time < numbers }
+        requires time { notice.stamp.number < numbers }
         ensures { Does (noticing (meaning S.Sealer) notice.entry lot) self.old self.new result [] [] }
     {
-        let Notice {
-            time,
-            serial,
-            tag,
-            associated,
-            nonce,
-            mac,
-        } = notice;
-        if !notice_opens::<S>(&self.settings.group, nonce, associated, mac) {
+        if !notice.opens::<S>(&self.settings.group) {
             return Err(Refusal::Opening);
         }
-        self.hear(time, serial, tag, lot);
+        self.hear(notice.stamp, lot);
         Ok(Answer::Taken)
     }
 
@@ -118,17 +103,12 @@ impl Core {
         if time >= NUMBERS {
             return Err(Refusal::TimesSpent);
         }
-        let tag = (lot % 0x1_0000) as u16;
-        let serial = self.settings.own_serial();
-        let length = wrap::<S>(
-            &self.settings.group,
-            GROUP,
-            time,
-            serial,
-            tag,
-            telegram,
-            out,
-        )?;
+        let stamp = Stamp {
+            number: time,
+            serial: self.settings.own_serial(),
+            tag: (lot % 0x1_0000) as u16,
+        };
+        let length = wrap::<S>(&self.settings.group, GROUP, stamp, telegram, out)?;
         Ok((length, time))
     }
 
@@ -162,10 +142,14 @@ impl Core {
         if self.group.countdown != 0 || time >= NUMBERS {
             return Ok(Answer::Nothing);
         }
-        let serial = self.group.notice_serial(self.settings.own_serial());
-        let tag = self.group.notice_tag(lot);
-        let length = notify::<S>(&self.settings.group, time, serial, tag, out)?;
-        self.group.notified_at(self.settings.sync(), time, lot);
+        let stamp = Stamp {
+            number: time,
+            serial: self.group.notice_serial(self.settings.own_serial()),
+            tag: self.group.notice_tag(lot),
+        };
+        let length = notify::<S>(&self.settings.group, stamp, out)?;
+        self.group
+            .notified_at(self.settings.tolerances(), time, lot);
         Ok(Answer::Frame { length })
     }
 }

@@ -5,7 +5,6 @@ mod acts;
 mod arrivals;
 mod calls;
 mod groups;
-pub mod received;
 mod requests;
 mod sealed;
 mod sessions;

@@ -12,9 +12,9 @@ use crate::sealed::respond;
 use crate::state::Core;
 use cipher::Block;
 use frames::LARGEST_FRAME;
-use frames::headers::part_at;
 use frames::writing::refuse_session;
-use octets::numbers::u16_at;
+use octets::numbers::number_at;
+use octets::runs::part_at;
 use rules::answers::{Answer, Refusal};
 use sealer::Sealer;
 use slots::slot::Slot;
@@ -35,7 +35,7 @@ fn read_offer(octets: &[u8]) -> Option<Offer>
     if octets.len() != OFFER_LENGTH {
         return None;
     }
-    let session = u16_at(octets, 0);
+    let session: u16 = number_at(octets, 0);
     if session == 0 {
         return None;
     }

@@ -16,11 +16,12 @@ ghost use Rattle.steps.specs.Statuses.{number_of};
 use crate::sealed::wrap;
 use crate::state::Core;
 use crate::statuses::Status;
-use clock::group::LAST_TIME;
 use frames::LARGEST_FRAME;
+use frames::stamps::Stamp;
 use frames::telegrams::family;
 use frames::writing::status_telegram;
 use rules::answers::{Answer, Refusal};
+use rules::limits::LAST_TIME;
 use rules::settings::Settings;
 use sealer::Sealer;
 use slots::place::Place;
@@ -37,8 +38,12 @@ fn seal_own<S: Sealer>(
     ensures answer { result ≡ Ok (length (own_wrapper settings.now (meaning S.Sealer) slot.now.number (session_of slot.now) telegram.now), slot.now.own) }
     ensures out { out.new ≡ over (own_wrapper settings.now (meaning S.Sealer) slot.now.number (session_of slot.now) telegram.now) out.old }
 {
-    let serial = settings.own_serial();
-    let length = wrap::<S>(&slot.key, slot.number, slot.own, serial, 0, telegram, out)?;
+    let stamp = Stamp {
+        number: slot.own,
+        serial: settings.own_serial(),
+        tag: 0,
+    };
+    let length = wrap::<S>(&slot.key, slot.number, stamp, telegram, out)?;
     Ok((length, slot.own))
 }
 
@@ -69,11 +74,10 @@ impl Core {
     pub(crate) fn live(&self, session: u16) -> Result<Place, Refusal>
         ensures { Lives self.now session result }
     {
-        let at = self.table.find(session).ok_or(Refusal::Session)?;
-        if self.table.slot(at).lapsed() {
-            return Err(Refusal::Session);
-        }
-        Ok(at)
+        self.table
+            .find(session)
+            .filter(|at| !self.table.slot(*at).lapsed())
+            .ok_or(Refusal::Session)
     }
 
     // A status goes out, and the session ends.

@@ -6,11 +6,10 @@ ghost use Rattle.steps.specs.Cores.{Does, Ready};
 ghost use Rattle.steps.specs.Opened.{Opens};
 ghost use Rattle.steps.specs.Steps.{opening, receiving};
 
-use crate::received::Wrapper;
 use crate::state::Core;
 use cipher::Block;
 use frames::LARGEST_FRAME;
-use frames::opening::open_wrapper;
+use frames::reading::Wrapper;
 use rules::answers::{Answer, Refusal};
 use sealer::Sealer;
 
@@ -23,14 +22,7 @@ pub(crate) fn open<S: Sealer>(
     requires small { length wrapper.ciphertext.now ≤ largest_telegram }
     ensures { Opens (opening (meaning S.Sealer) key.now wrapper.entry) work.new result }
 {
-    let Wrapper {
-        nonce,
-        associated,
-        ciphertext,
-        mac,
-        ..
-    } = wrapper;
-    open_wrapper::<S>(key, nonce, associated, ciphertext, mac, work).ok_or(Refusal::Opening)
+    wrapper.open::<S>(key, work).ok_or(Refusal::Opening)
 }
 
 impl Core {
@@ -45,14 +37,14 @@ impl Core {
         ensures { Does (receiving (meaning S.Sealer) wrapper.entry) self.old self.new result out.old out.new }
     {
         let at = self.live(wrapper.session)?;
-        if wrapper.serial == self.settings.own_serial() {
+        if wrapper.stamp.serial == self.settings.own_serial() {
             return Err(Refusal::OwnSerial);
         }
         let slot = self.table.slot(at);
-        if !slot.is_new(wrapper.number) {
+        if !slot.is_new(wrapper.stamp.number) {
             return Err(Refusal::Number);
         }
         let length = open::<S>(&slot.key, wrapper, work)?;
-        self.act::<S>(at, wrapper.number, &work[..length], out)
+        self.act::<S>(at, wrapper.stamp.number, &work[..length], out)
     }
 }
