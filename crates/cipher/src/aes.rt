@@ -168,6 +168,7 @@ pub fn key_schedule(key: &Block) -> [Block; 11]
     ensures { result ≡ schedule key.now }
 {
     let mut keys = [*key; 11];
+    // by place, since each key is made from the one before it
     for (n, constant) in ROUND_CONSTANTS.iter().enumerate() {
         keys[n + 1] = next_key(&keys[n], *constant);
     }

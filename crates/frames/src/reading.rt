@@ -24,7 +24,8 @@ use octets::numbers::number_at;
 use octets::runs::part_at;
 use sealer::Nonce;
 
-// A secure wrapper, of a session or of the group. Its parts are lent from the octets that arrived.
+// A secure wrapper, of a session or of the group. Its parts are lent from the octets that arrived. That number, serial and ciphertext lie
+// within bounds is what `read` ensures and no ghost field: any parts make a wrapper, and `open` answers for them.
 #[derive(Clone, Copy)]
 pub struct Wrapper<'a> {
     pub session: u16,

@@ -8,6 +8,7 @@ pub fn xor_into(into: &mut [u8], with: &[u8])
     ensures { into.new ≡ xor into.old with.now }
 {
     let shared = into.len().min(with.len());
+    // by place: of what is written through a zip over iter_mut a proof knows nothing afterwards
     for (i, x) in with[..shared].iter().enumerate() {
         into[i] ^= x;
     }

@@ -16,7 +16,8 @@ pub const LARGEST_TELEGRAM: usize = 474;
 
 pub type Nonce = [u8; 14];
 
-// A sealer has no state: its type says which sealer it is. A telegram longer than the largest cannot be passed to it.
+// A sealer has no state: its type says which sealer it is. A telegram longer than the largest cannot be passed to it. That is a clause
+// and no type, here and in the crates above: a slice type with the bound would be made and taken apart at each call, and say no more.
 pub trait Sealer {
     // the meaning: ciphertext and MAC by key, nonce, associated data and telegram
     ghost ciphertext: { Sealed };

@@ -11,6 +11,7 @@ use crate::slot::Slot;
 
 pub const SLOTS: usize = 8;
 
+// That no two rows have one number is a clause where it is needed: the form of the table is given, and it has no invariant.
 #[derive(Drop)]
 pub struct Table {
     rows: [Slot; SLOTS],
