@@ -17,6 +17,7 @@ pub const LARGEST_TELEGRAM: usize = 474;
 pub type Nonce = [u8; 14];
 
 // A sealer has no state: its type says which sealer it is. A telegram longer than the largest cannot be passed to it.
+// That stands in the clauses and in no type, since it is the output slice itself that is handed on to a sealer.
 pub trait Sealer {
     // the meaning: ciphertext and MAC by key, nonce, associated data and telegram
     ghost ciphertext: { Sealed };
