@@ -20,40 +20,26 @@ impl AnyGateway {
     pub fn make(given: &Given) -> Result<AnyGateway, Refusal> {
         let settings = given.settings;
         match (given.cipher, given.sealing) {
-            (Cipher::Aes, Sealing::Knx) => Ok(AnyGateway::Knx(Gateway::make(settings)?)),
-            (Cipher::Aes, Sealing::Reading) => Ok(AnyGateway::Reading(Gateway::make(settings)?)),
-            (Cipher::Bench, Sealing::Knx) => Ok(AnyGateway::BenchKnx(Gateway::make(settings)?)),
-            (Cipher::Bench, Sealing::Reading) => Ok(AnyGateway::BenchReading(Gateway::make(
-                settings,
-            )?)),
+            (Cipher::Aes, Sealing::Knx) => Gateway::make(settings).map(AnyGateway::Knx),
+            (Cipher::Aes, Sealing::Reading) => Gateway::make(settings).map(AnyGateway::Reading),
+            (Cipher::Bench, Sealing::Knx) => Gateway::make(settings).map(AnyGateway::BenchKnx),
+            (Cipher::Bench, Sealing::Reading) => Gateway::make(settings).map(
+                AnyGateway::BenchReading,
+            ),
         }
     }
 
-    // The gateway after the call, and what it answered. It goes in and out by value, since a variant that holds a gateway
-    // cannot be changed in place.
     pub fn carry_out(
-        self,
+        &mut self,
         call: &Call,
         out: &mut [u8],
         work: &mut [u8],
-    ) -> (AnyGateway, Result<Answer, Refusal>) {
+    ) -> Result<Answer, Refusal> {
         match self {
-            AnyGateway::Knx(mut gateway) => {
-                let answered = carry_out(&mut gateway, call, out, work);
-                (AnyGateway::Knx(gateway), answered)
-            }
-            AnyGateway::Reading(mut gateway) => {
-                let answered = carry_out(&mut gateway, call, out, work);
-                (AnyGateway::Reading(gateway), answered)
-            }
-            AnyGateway::BenchKnx(mut gateway) => {
-                let answered = carry_out(&mut gateway, call, out, work);
-                (AnyGateway::BenchKnx(gateway), answered)
-            }
-            AnyGateway::BenchReading(mut gateway) => {
-                let answered = carry_out(&mut gateway, call, out, work);
-                (AnyGateway::BenchReading(gateway), answered)
-            }
+            AnyGateway::Knx(gateway) => carry_out(gateway, call, out, work),
+            AnyGateway::Reading(gateway) => carry_out(gateway, call, out, work),
+            AnyGateway::BenchKnx(gateway) => carry_out(gateway, call, out, work),
+            AnyGateway::BenchReading(gateway) => carry_out(gateway, call, out, work),
         }
     }
 

@@ -1,11 +1,11 @@
 // What a line says: a setting, a call, or one of the words beside them.
 use crate::faults::Fault;
-use crate::settings::{Cipher, Sealing, Setting};
+use crate::settings::Setting;
 use crate::words::Words;
 use std::alloc::Global;
 
 // The longest that a buffer can be made.
-pub const LONGEST_BUFFER: u64 = 65_536;
+const LONGEST_BUFFER: u32 = 65_536;
 
 #[derive(Drop)]
 pub enum Call {
@@ -68,12 +68,9 @@ fn read_item(heap: Global, name: &str, words: &mut Words) -> Result<Item, Fault>
 }
 
 fn read_buffers(words: &mut Words) -> Result<Item, Fault> {
-    let output = words.number("output", LONGEST_BUFFER)?;
-    let work = words.number("work area", LONGEST_BUFFER)?;
-    Ok(Item::Buffers {
-        output: output as usize,
-        work: work as usize,
-    })
+    let output = words.number("output", LONGEST_BUFFER)? as usize;
+    let work = words.number("work area", LONGEST_BUFFER)? as usize;
+    Ok(Item::Buffers { output, work })
 }
 
 // A call, or nothing where the name is none of a call.
@@ -82,13 +79,13 @@ fn read_call(heap: Global, name: &str, words: &mut Words) -> Result<Option<Call>
         "arrive" => Call::Arrive {
             frame: words.octets(heap, "frame")?,
             offer: words.octets(heap, "offer")?,
-            lot: words.number_32("lot")?,
+            lot: words.number("lot", u32::MAX)?,
         },
         "pass" => Call::Pass {
-            milliseconds: words.number_32("number of milliseconds")?,
+            milliseconds: words.number("number of milliseconds", u32::MAX)?,
         },
         "due" => Call::Due {
-            lot: words.number_32("lot")?,
+            lot: words.number("lot", u32::MAX)?,
         },
         "send" => Call::Send {
             session: words.session()?,
@@ -96,7 +93,7 @@ fn read_call(heap: Global, name: &str, words: &mut Words) -> Result<Option<Call>
         },
         "announce" => Call::Announce {
             telegram: words.octets(heap, "telegram")?,
-            lot: words.number_32("lot")?,
+            lot: words.number("lot", u32::MAX)?,
         },
         "hangup" => Call::HangUp {
             session: words.session()?,
@@ -108,32 +105,16 @@ fn read_call(heap: Global, name: &str, words: &mut Words) -> Result<Option<Call>
 
 fn read_setting(heap: Global, name: &str, words: &mut Words) -> Result<Setting, Fault> {
     match name {
-        "cipher" => Ok(Setting::Cipher(read_cipher(words)?)),
-        "sealer" => Ok(Setting::Sealing(read_sealing(words)?)),
+        "cipher" => Ok(Setting::Cipher(words.word("cipher")?.parse()?)),
+        "sealer" => Ok(Setting::Sealing(words.word("sealer")?.parse()?)),
         "serial" => Ok(Setting::Serial(words.array(heap, "serial")?)),
         "device-code" => Ok(Setting::Device(words.array(heap, "device code")?)),
         "group-key" => Ok(Setting::Group(words.array(heap, "group key")?)),
         "user" => read_user(heap, words),
         "start" => Ok(Setting::Start(words.number("start", u64::MAX)?)),
-        "tolerance" => Ok(Setting::Latency(words.number_32("latency tolerance")?)),
-        "sync" => Ok(Setting::Sync(words.number_32("sync tolerance")?)),
+        "tolerance" => Ok(Setting::Latency(words.number("latency tolerance", u32::MAX)?)),
+        "sync" => Ok(Setting::Sync(words.number("sync tolerance", u32::MAX)?)),
         _ => Err(Fault::UnknownWord),
-    }
-}
-
-fn read_cipher(words: &mut Words) -> Result<Cipher, Fault> {
-    match words.word("cipher")? {
-        "aes" => Ok(Cipher::Aes),
-        "bench" => Ok(Cipher::Bench),
-        _ => Err(Fault::NoSuchCipher),
-    }
-}
-
-fn read_sealing(words: &mut Words) -> Result<Sealing, Fault> {
-    match words.word("sealer")? {
-        "knx" => Ok(Sealing::Knx),
-        "reading" => Ok(Sealing::Reading),
-        _ => Err(Fault::NoSuchSealer),
     }
 }
 
@@ -143,5 +124,5 @@ fn read_user(heap: Global, words: &mut Words) -> Result<Setting, Fault> {
         return Err(Fault::NoSuchUser);
     }
     let hash = words.array(heap, "password hash")?;
-    Ok(Setting::User(user as u8, hash))
+    Ok(Setting::User(user as usize - 1, hash))
 }
