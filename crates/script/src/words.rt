@@ -1,4 +1,7 @@
 // The words of a line, read one by one as what they stand for.
+ghost use Rattle.std.specs.Ordering.{partial_le};
+ghost use Rattle.std.specs.Prelude.{◌≡◌, IfOk, true};
+
 use crate::faults::Fault;
 use std::alloc::Global;
 use std::str::{FromStr, SplitAsciiWhitespace};
@@ -40,6 +43,7 @@ impl<'a> Words<'a> {
     where
         T::Err: Drop,
         u64: From<T>,
+        ensures { IfOk result (λ n. partial_le T.partial_cmp n most ≡ true) }
     {
         let word = self.word(part)?;
         if !word.bytes().all(|letter| letter.is_ascii_digit()) {
