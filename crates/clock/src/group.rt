@@ -1,5 +1,5 @@
 // The group timer, what was sent by it, and what is planned.
-ghost use Rattle.std.specs.Prelude.{◌≡◌, ◌<◌, ◌≤◌};
+ghost use Rattle.std.specs.Prelude.{◌≡◌, ◌<◌};
 ghost use Rattle.clock.specs.Times.{
   Small,
   asked,
@@ -12,16 +12,19 @@ ghost use Rattle.clock.specs.Times.{
   started_at,
 };
 ghost use Rattle.rules.specs.GroupTime.{next_time, notice_serial, notice_tag, within};
-ghost use Rattle.rules.specs.Limits.{largest_latency, numbers};
+ghost use Rattle.rules.specs.Limits.{numbers};
 
-pub const LAST_TIME: u64 = 0xffff_ffff_ffff;
+use frames::stamps::Stamp;
+use rules::limits::LAST_TIME;
+use rules::tolerances::Tolerances;
 
+// That the timer lies below `numbers` is a clause where it is needed and no ghost field: the definitions make clocks of any numbers.
 #[derive(Clone, Copy)]
 pub struct Group {
     pub timer: u64,
     // the last time that was sent
     pub sent: Option<u64>,
-    // time keeper, or time follower
+    // time keeper, or time follower; a flag as in the rules' model
     pub keeper: bool,
     // serial and tag of the frame to which a reply is wanted
     pub wanted: Option<(u64, u16)>,
@@ -29,107 +32,92 @@ pub struct Group {
     pub countdown: u32,
 }
 
-// Whether a time exceeds the timer less the tolerance; the difference may lie below 0.
-fn tolerates(timer: u64, tolerance: u32, time: u64) -> bool
-    requires { (timer < numbers) × (time < numbers) }
-    ensures { result ≡ within timer tolerance time }
-{
-    let earliest = timer as i64 - tolerance as i64;
-    earliest < time as i64
-}
-
-// Milliseconds until the reply to a late frame.
-fn reply_in(sync: u32, keeper: bool, lot: u32) -> u32
-    requires { sync ≤ largest_latency }
-    ensures { result ≡ reply_in sync keeper lot }
-{
-    if keeper {
-        100 + lot % (sync + 1)
-    } else {
-        100 + 2 * sync + lot % (10 * sync + 1)
-    }
-}
-
 impl Group {
     // A new gateway's clock.
-    pub fn new(sync: u32, start: u64) -> Group
-        requires { sync ≤ largest_latency }
-        ensures { result ≡ started_at sync start }
+    pub fn new(tolerances: Tolerances, start: u64) -> Group
+        ensures { result ≡ started_at tolerances.sync start }
     {
         Group {
             timer: start,
             sent: None,
             keeper: false,
             wanted: None,
-            countdown: 10_000 + 4 * sync,
+            countdown: 10_000 + 4 * tolerances.sync,
+        }
+    }
+
+    // Whether a time exceeds the timer less the tolerance; the difference may lie below 0.
+    fn tolerates(self, tolerance: u32, time: u64) -> bool
+        requires { (self.timer < numbers) × (time < numbers) }
+        ensures { result ≡ within self.timer tolerance time }
+    {
+        let earliest = self.timer as i64 - tolerance as i64;
+        earliest < time as i64
+    }
+
+    // Milliseconds until the reply to a late frame.
+    fn reply_in(self, tolerances: Tolerances, lot: u32) -> u32
+        ensures { result ≡ reply_in tolerances.sync self.keeper lot }
+    {
+        let sync = tolerances.sync;
+        if self.keeper {
+            100 + lot % (sync + 1)
+        } else {
+            100 + 2 * sync + lot % (10 * sync + 1)
         }
     }
 
     // Follower of this time.
-    fn followed(self, sync: u32, time: u64, lot: u32) -> Group
-        requires { sync ≤ largest_latency }
-        ensures { result ≡ followed sync self time lot }
+    fn followed(self, tolerances: Tolerances, time: u64, lot: u32) -> Group
+        ensures { result ≡ followed tolerances.sync self time lot }
     {
+        let sync = tolerances.sync;
         Group {
             timer: time,
-            sent: self.sent,
             keeper: false,
             wanted: None,
             countdown: 10_000 + 4 * sync + lot % (10 * sync + 1),
+            ..self
         }
     }
 
     // A reply is wanted; the first late frame stays the one to reply to.
-    fn asked(self, sync: u32, serial: u64, tag: u16, lot: u32) -> Group
-        requires { sync ≤ largest_latency }
-        ensures { result ≡ asked sync self serial tag lot }
+    fn asked(self, tolerances: Tolerances, stamp: Stamp, lot: u32) -> Group
+        ensures { result ≡ asked tolerances.sync self stamp.serial stamp.tag lot }
     {
-        let wanted = match self.wanted {
-            None => Some((serial, tag)),
-            Some(first) => Some(first),
-        };
         Group {
-            timer: self.timer,
-            sent: self.sent,
-            keeper: self.keeper,
-            wanted,
-            countdown: self.countdown.min(reply_in(sync, self.keeper, lot)),
+            wanted: self.wanted.or(Some((stamp.serial, stamp.tag))),
+            countdown: self.countdown.min(self.reply_in(tolerances, lot)),
+            ..self
         }
     }
 
-    fn heard_by(self, latency: u32, sync: u32, time: u64, serial: u64, tag: u16, lot: u32) -> Group
-        requires { (self.timer < numbers) × ((time < numbers) × (sync ≤ largest_latency)) }
-        ensures group { result ≡ heard_by latency sync self time serial tag lot }
+    fn heard_by(self, tolerances: Tolerances, stamp: Stamp, lot: u32) -> Group
+        requires { (self.timer < numbers) × (stamp.number < numbers) }
+        ensures group { result ≡ heard_by tolerances.latency tolerances.sync self stamp.number stamp.serial stamp.tag lot }
         ensures small { result.timer < numbers }
     {
+        let time = stamp.number;
         if self.timer < time {
-            self.followed(sync, time, lot)
-        } else if tolerates(self.timer, sync, time) {
-            self.followed(sync, self.timer, lot)
-        } else if tolerates(self.timer, latency, time) {
+            self.followed(tolerances, time, lot)
+        } else if self.tolerates(tolerances.sync, time) {
+            self.followed(tolerances, self.timer, lot)
+        } else if self.tolerates(tolerances.latency, time) {
             self
         } else {
-            self.asked(sync, serial, tag, lot)
+            self.asked(tolerances, stamp, lot)
         }
     }
 
-    // A frame of the group with its time, serial and tag: true where it is not late.
-    pub fn heard(
-        &mut self,
-        latency: u32,
-        sync: u32,
-        time: u64,
-        serial: u64,
-        tag: u16,
-        lot: u32,
-    ) -> bool
-        requires { (self.old.timer < numbers) × ((time < numbers) × (sync ≤ largest_latency)) }
-        ensures group { self.new ≡ heard_by latency sync self.old time serial tag lot }
+    // A frame of the group with this stamp: true where it is not late.
+    pub fn heard(&mut self, tolerances: Tolerances, stamp: Stamp, lot: u32) -> bool
+        requires { (self.old.timer < numbers) × (stamp.number < numbers) }
+        ensures group { self.new ≡ heard_by tolerances.latency tolerances.sync self.old stamp.number stamp.serial stamp.tag lot }
         ensures small { self.new.timer < numbers }
-        ensures answer { result ≡ within self.old.timer latency time }
+        ensures answer { result ≡ within self.old.timer tolerances.latency stamp.number }
     {
-        let in_time = tolerates(self.timer, latency, time);
-        *self = self.heard_by(latency, sync, time, serial, tag, lot);
+        let in_time = self.tolerates(tolerances.latency, stamp.number);
+        *self = self.heard_by(tolerances, stamp, lot);
         in_time
     }
 
@@ -147,10 +135,8 @@ impl Group {
         requires { Small self.now.sent }
         ensures { result ≡ next_time self.now.timer self.now.sent }
     {
-        match self.sent {
-            None => self.timer,
-            Some(last) => self.timer.max(last + 1),
-        }
+        self.sent
+            .map_or(self.timer, |last| self.timer.max(last + 1))
     }
 
     // After a frame to the group.
@@ -162,16 +148,15 @@ impl Group {
     }
 
     // After a timer notify: the gateway keeps the time.
-    pub fn notified_at(&mut self, sync: u32, time: u64, lot: u32)
-        requires { sync ≤ largest_latency }
-        ensures { self.new ≡ notified_by sync time lot }
+    pub fn notified_at(&mut self, tolerances: Tolerances, time: u64, lot: u32)
+        ensures { self.new ≡ notified_by tolerances.sync time lot }
     {
         *self = Group {
             timer: time,
             sent: Some(time),
             keeper: true,
             wanted: None,
-            countdown: 10_000 + lot % (3 * sync + 1),
+            countdown: 10_000 + lot % (3 * tolerances.sync + 1),
         };
     }
 
@@ -179,18 +164,12 @@ impl Group {
     pub fn notice_serial(&self, own: u64) -> u64
         ensures { result ≡ notice_serial self.now.wanted own }
     {
-        match self.wanted {
-            None => own,
-            Some((serial, _)) => serial,
-        }
+        self.wanted.map_or(own, |(serial, _)| serial)
     }
 
     pub fn notice_tag(&self, lot: u32) -> u16
         ensures { result ≡ notice_tag self.now.wanted lot }
     {
-        match self.wanted {
-            None => (lot % 0x1_0000) as u16,
-            Some((_, tag)) => tag,
-        }
+        self.wanted.map_or((lot % 0x1_0000) as u16, |(_, tag)| tag)
     }
 }

@@ -9,19 +9,6 @@ use Rattle.octets.specs.Runs.{over}
 pub grow : (p y out : List ℕ) (k e : ℕ) → length p ≡ k → k + length y ≡ e → put_mid k (e - k) (p ++ drop k out) y ≡ (p ++ y) ++ drop e out
 grow p y out k e lp le = search (rules, overwrites)
 
-pub three : (a b d out : List ℕ) (k q r : ℕ) → length a ≡ k → k + length b ≡ q → q + length d ≡ r
-    → put_mid q (r - q) (put_mid k (q - k) (a ++ drop k out) b) d ≡ over (a ++ b ++ d) out
-three a b d out k q r la lb ld =
-    let s1 = grow a b out k q la lb in
-    let l2 : length (a ++ b) ≡ q = simp length-append (omega arith) in
-    let s2 = grow (a ++ b) d out q r l2 ld in
-    let l3 : length (a ++ b ++ d) ≡ r = simp length-append (omega arith) in
-    cc
-
--- two parts that fill the output
-pub two : (a b out : List ℕ) (k e : ℕ) → length a ≡ k → k + length b ≡ e → length out ≡ e → put_mid k (e - k) (a ++ drop k out) b ≡ a ++ b
-two a b out k e la lb lo = grow a b out k e la lb ∙ ap (λ (l : List ℕ). (a ++ b) ++ l) (drop_all e out (omega arith)) ∙ append-nil (a ++ b)
-
 pub four : (a b x d out : List ℕ) (k q r e : ℕ) → length a ≡ k → k + length b ≡ q → q + length x ≡ r → r + length d ≡ e
     → put_mid r (e - r) (put_mid q (r - q) (put_mid k (q - k) (a ++ drop k out) b) x) d ≡ over (a ++ b ++ x ++ d) out
 four a b x d out k q r e la lb lx ld =

@@ -1,4 +1,5 @@
 pub mod Limits
+pub mod Kinds
 pub mod Headers
 pub mod Reading
 pub mod Telegrams

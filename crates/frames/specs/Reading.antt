@@ -59,10 +59,10 @@ reading f = by_header (stated_kind f) f
 
 -- what the code answers, with lists for the parts of the frame that it lends
 abbrev pub shape : Frame → Shape
-shape (Wrapper session count serial tag associated nonce ciphertext mac) =
-    a_wrapper session count serial tag associated.now nonce.now ciphertext.now mac.now
+shape (Wrapper w) =
+    a_wrapper w.session w.stamp.number w.stamp.serial w.stamp.tag w.associated.now w.nonce.now w.ciphertext.now w.mac.now
 shape (Request x) = a_request x.now
-shape (Notice time serial tag associated nonce mac) = a_notice time serial tag associated.now nonce.now mac.now
+shape (Notice n) = a_notice n.stamp.number n.stamp.serial n.stamp.tag n.associated.now n.nonce.now n.mac.now
 
 abbrev pub shown : Result Frame Unreadable → Result Shape Unreadable
 shown (Ok f) = Ok (shape f)
@@ -70,10 +70,9 @@ shown (Err e) = Err e
 
 -- the bounds on what is read
 abbrev pub Bounded : Frame → Type 0
-Bounded (Wrapper session count serial tag associated nonce ciphertext mac) =
-    (count < 2 ^ 48) × (serial < 2 ^ 48) × (length ciphertext.now ≤ largest_telegram)
+Bounded (Wrapper w) = (w.stamp.number < 2 ^ 48) × (w.stamp.serial < 2 ^ 48) × (length w.ciphertext.now ≤ largest_telegram)
 Bounded (Request x) = Unit {0}
-Bounded (Notice time serial tag associated nonce mac) = (time < 2 ^ 48) × (serial < 2 ^ 48)
+Bounded (Notice n) = (n.stamp.number < 2 ^ 48) × (n.stamp.serial < 2 ^ 48)
 
 abbrev pub Sound : Result Frame Unreadable → Type 0
 Sound (Ok f) = Bounded f

@@ -2,9 +2,11 @@
 #![tactic(auto)]
 
 pub mod headers;
+pub mod kinds;
 pub mod opening;
 pub mod reading;
 pub mod sealing;
+pub mod stamps;
 pub mod telegrams;
 pub mod writing;
 
@@ -27,19 +29,6 @@ ghost use Rattle.frames.specs.Laws.{
 
 use sealer::Sealer;
 
-// The kinds of frames.
-pub const WRAPPER: u16 = 0x0950;
-
-pub const REQUEST: u16 = 0x0951;
-
-pub const RESPONSE: u16 = 0x0952;
-
-pub const AUTHENTICATE: u16 = 0x0953;
-
-pub const STATUS: u16 = 0x0954;
-
-pub const NOTICE: u16 = 0x0955;
-
 // The limits on lengths, in octets; the largest telegram is the sealer's.
 pub const LARGEST_FRAME: usize = 512;
 
@@ -49,13 +38,13 @@ pub const WRAPPER_OVERHEAD: usize = 38;
 
 pub const REQUEST_LENGTH: usize = 46;
 
-pub const RESPONSE_LENGTH: u16 = 56;
+pub const RESPONSE_LENGTH: usize = 56;
 
 pub const NO_SESSION_LENGTH: usize = 8;
 
 pub const AUTHENTICATE_LENGTH: usize = 24;
 
-pub const STATUS_LENGTH: u16 = 8;
+pub const STATUS_LENGTH: usize = 8;
 
 pub const NOTICE_LENGTH: usize = 36;
 

@@ -15,47 +15,49 @@ ghost use Rattle.frames.specs.Reading.{
   wrapper_shape,
 };
 
-use crate::headers::{part_at, stated_kind};
-use crate::{
-    LARGEST_FRAME, NOTICE, NOTICE_LENGTH, REQUEST, REQUEST_LENGTH, SMALLEST_WRAPPER, WRAPPER,
-};
+use crate::headers::stated_kind;
+use crate::kinds::Kind;
+use crate::stamps::Stamp;
+use crate::{LARGEST_FRAME, NOTICE_LENGTH, REQUEST_LENGTH, SMALLEST_WRAPPER};
 use cipher::Block;
-use octets::numbers::{u16_at, u48_at};
+use octets::numbers::number_at;
+use octets::runs::part_at;
 use sealer::Nonce;
 
-// A frame that is read. Its parts are lent from the octets that arrived.
-// There is no case for other kinds: reading refuses them, so it could never come.
+// A secure wrapper, of a session or of the group. Its parts are lent from the octets that arrived.
+#[derive(Clone, Copy)]
+pub struct Wrapper<'a> {
+    pub session: u16,
+    pub stamp: Stamp,
+    pub associated: &'a [u8; 8],
+    pub nonce: &'a Nonce,
+    pub ciphertext: &'a [u8],
+    pub mac: &'a Block,
+}
+
+// A timer notify.
+#[derive(Clone, Copy)]
+pub struct Notice<'a> {
+    pub stamp: Stamp,
+    pub associated: &'a [u8; 6],
+    pub nonce: &'a Nonce,
+    pub mac: &'a Block,
+}
+
+// A frame that is read. There is no case for other kinds: reading refuses them, so it could never come.
 #[derive(Clone, Copy)]
 pub enum Frame<'a> {
-    Wrapper {
-        session: u16,
-        number: u64,
-        serial: u64,
-        tag: u16,
-        associated: &'a [u8; 8],
-        nonce: &'a Nonce,
-        ciphertext: &'a [u8],
-        mac: &'a Block,
-    },
-    Request {
-        x: &'a [u8; 32],
-    },
-    Notice {
-        time: u64,
-        serial: u64,
-        tag: u16,
-        associated: &'a [u8; 6],
-        nonce: &'a Nonce,
-        mac: &'a Block,
-    },
+    Wrapper(Wrapper<'a>),
+    Request { x: &'a [u8; 32] },
+    Notice(Notice<'a>),
 }
 
 // Why an octet string is not read.
 #[derive(Clone, Copy, PartialEq, Eq)]
 pub enum Unreadable {
-    Header,
-    Kind,
-    Length,
+    Header = 2,
+    Kind = 3,
+    Length = 4,
 }
 
 impl Unreadable {
@@ -63,15 +65,11 @@ impl Unreadable {
     pub fn refusal(self) -> u8
         ensures { result ≡ refusal_number self }
     {
-        match self {
-            Unreadable::Header => 2,
-            Unreadable::Kind => 3,
-            Unreadable::Length => 4,
-        }
+        self as u8
     }
 }
 
-fn wrapper(frame: &[u8]) -> Result<Frame, Unreadable>
+fn read_wrapper(frame: &[u8]) -> Result<Frame, Unreadable>
     requires { length frame.now ≤ largest_frame }
     ensures meaning { shown result ≡ if_fits (wrapper_fits frame.now) (wrapper_shape frame.now) }
     ensures bounds { Sound result }
@@ -80,65 +78,57 @@ fn wrapper(frame: &[u8]) -> Result<Frame, Unreadable>
         return Err(Unreadable::Length);
     }
     let end = frame.len() - 16;
-    Ok(Frame::Wrapper {
-        session: u16_at(frame, 6),
-        number: u48_at(frame, 8),
-        serial: u48_at(frame, 14),
-        tag: u16_at(frame, 20),
+    Ok(Frame::Wrapper(Wrapper {
+        session: number_at(frame, 6),
+        stamp: Stamp::at(frame, 8),
         associated: part_at(frame, 0),
         nonce: part_at(frame, 8),
         ciphertext: &frame[22..end],
         mac: part_at(frame, end),
-    })
+    }))
 }
 
-fn request(frame: &[u8]) -> Result<Frame, Unreadable>
+fn read_request(frame: &[u8]) -> Result<Frame, Unreadable>
     ensures meaning { shown result ≡ if_fits (request_fits frame.now) (request_shape frame.now) }
     ensures bounds { Sound result }
 {
-    if frame.len() != REQUEST_LENGTH || frame[6] != 0x08 {
+    if frame.len() != REQUEST_LENGTH || frame[6] != 0x08 || !matches!(frame[7], 0x01 | 0x02) {
         return Err(Unreadable::Length);
     }
-    match frame[7] {
-        0x01 | 0x02 => Ok(Frame::Request {
-            x: part_at(frame, 14),
-        }),
-        _ => Err(Unreadable::Length),
-    }
+    Ok(Frame::Request {
+        x: part_at(frame, 14),
+    })
 }
 
-fn notice(frame: &[u8]) -> Result<Frame, Unreadable>
+fn read_notice(frame: &[u8]) -> Result<Frame, Unreadable>
     ensures meaning { shown result ≡ if_fits (notice_fits frame.now) (notice_shape frame.now) }
     ensures bounds { Sound result }
 {
     if frame.len() != NOTICE_LENGTH {
         return Err(Unreadable::Length);
     }
-    Ok(Frame::Notice {
-        time: u48_at(frame, 6),
-        serial: u48_at(frame, 12),
-        tag: u16_at(frame, 18),
+    Ok(Frame::Notice(Notice {
+        stamp: Stamp::at(frame, 6),
         associated: part_at(frame, 0),
         nonce: part_at(frame, 6),
         mac: part_at(frame, 20),
-    })
+    }))
 }
 
 // Total: what is no frame is refused, with the first reason in the order header, kind, length.
+#[tactic(auto, using(std::proofs::lemmas::Bool::Decides::nat_tests))]
 pub fn read(frame: &[u8]) -> Result<Frame, Unreadable>
     ensures meaning { shown result ≡ reading frame.now }
     ensures bounds { Sound result }
 {
-    let Some(kind) = stated_kind(frame) else {
-        return Err(Unreadable::Header);
-    };
+    let kind = stated_kind(frame).ok_or(Unreadable::Header)?;
     if frame.len() > LARGEST_FRAME {
         return Err(Unreadable::Header);
     }
-    match kind {
-        WRAPPER => wrapper(frame),
-        REQUEST => request(frame),
-        NOTICE => notice(frame),
-        _ => Err(Unreadable::Kind),
+    match Kind::try_from(kind)? {
+        Kind::Wrapper => read_wrapper(frame),
+        Kind::Request => read_request(frame),
+        Kind::Notice => read_notice(frame),
+        Kind::Response | Kind::Authenticate | Kind::Status => Err(Unreadable::Kind),
     }
 }

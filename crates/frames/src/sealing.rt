@@ -17,54 +17,32 @@ ghost use Rattle.sealer.specs.Limits.{largest_telegram};
 ghost use Rattle.frames.specs.Writing.{left, room};
 
 use crate::WRAPPER_OVERHEAD;
-use crate::writing::{
-    authenticate_lead, nonce_of, notice_lead, put_parts, response_lead, wrapper_lead,
-};
+use crate::stamps::Stamp;
+use crate::writing::{authenticate_lead, notice_lead, put_parts, response_lead, wrapper_lead};
 use cipher::Block;
 use octets::runs::xor_into;
 use sealer::{LARGEST_TELEGRAM, Nonce, Sealer};
 
-fn notify<S: Sealer>(key: &Block, lead: &[u8; 6], nonce: &Nonce, out: &mut [u8]) -> Option<usize>
-    ensures length { result ≡ room notice_length out.old }
-    ensures out { out.new ≡ left result (notified S.Sealer.mac key.now lead.now nonce.now) out.old }
-{
-    let mac = S::seal(key, nonce, lead, &mut []);
-    put_parts(lead, nonce, &mac, out)
-}
-
 // A timer notify, put to the front of the output if that has the room.
-pub fn seal_notice<S: Sealer>(
-    key: &Block,
-    time: u64,
-    serial: u64,
-    tag: u16,
-    out: &mut [u8],
-) -> Option<usize>
+pub fn seal_notice<S: Sealer>(key: &Block, stamp: Stamp, out: &mut [u8]) -> Option<usize>
     ensures length { result ≡ room notice_length out.old }
-    ensures out { out.new ≡ left result (sealed_notice S.Sealer.mac key.now time serial tag) out.old }
+    ensures out { out.new ≡ left result (sealed_notice S.Sealer.mac key.now stamp.number stamp.serial stamp.tag) out.old }
 {
-    notify::<S>(key, &notice_lead(), &nonce_of(time, serial, tag), out)
-}
-
-// Two runs, which fill the buffer.
-fn join(first: &[u8], second: &[u8], into: &mut [u8])
-    requires { length first.now + length second.now ≡ length into.old }
-    ensures { into.new ≡ first.now ++ second.now }
-{
-    let a = first.len();
-    let b = into.len();
-    into[..a].copy_from_slice(first);
-    into[a..b].copy_from_slice(second);
+    let lead = notice_lead();
+    let nonce = stamp.nonce();
+    let mac = S::seal(key, &nonce, &lead, &mut []);
+    put_parts(&lead, &nonce, &mac, out)
 }
 
 // The associated data of a session response and of a session authenticate.
 fn exchange_octets(lead: &[u8; 8], x: &[u8; 32], y: &[u8; 32]) -> [u8; 40]
     ensures { result ≡ exchange_data lead.now x.now y.now }
 {
-    let mut both = *x;
-    xor_into(&mut both, y);
     let mut octets = [0; 40];
-    join(lead, &both, &mut octets);
+    let (front, back) = octets.split_at_mut(8);
+    front.copy_from_slice(lead);
+    back.copy_from_slice(x);
+    xor_into(back, y);
     octets
 }
 
@@ -72,20 +50,6 @@ fn mac_of_exchange<S: Sealer>(key: &Block, lead: &[u8; 8], x: &[u8; 32], y: &[u8
     ensures { result ≡ exchange_mac S.Sealer.mac key.now lead.now x.now y.now }
 {
     S::seal(key, &[0; 14], &exchange_octets(lead, x, y), &mut [])
-}
-
-fn respond<S: Sealer>(
-    key: &Block,
-    lead: &[u8; 8],
-    x: &[u8; 32],
-    y: &[u8; 32],
-    out: &mut [u8],
-) -> Option<usize>
-    ensures length { result ≡ room response_length out.old }
-    ensures out { out.new ≡ left result (responded S.Sealer.mac key.now lead.now x.now y.now) out.old }
-{
-    let mac = mac_of_exchange::<S>(key, lead, x, y);
-    put_parts(lead, y, &mac, out)
 }
 
 // A session response, under the device code, put to the front of the output if that has the room.
@@ -99,7 +63,9 @@ pub fn seal_response<S: Sealer>(
     ensures length { result ≡ room response_length out.old }
     ensures out { out.new ≡ left result (sealed_response S.Sealer.mac key.now session x.now y.now) out.old }
 {
-    respond::<S>(key, &response_lead(session), x, y, out)
+    let lead = response_lead(session);
+    let mac = mac_of_exchange::<S>(key, &lead, x, y);
+    put_parts(&lead, y, &mac, out)
 }
 
 // The MAC of the session authenticate of a user, under the hash of the user's password.
@@ -139,19 +105,16 @@ fn wrap<S: Sealer>(
 pub fn seal_wrapper<S: Sealer>(
     key: &Block,
     session: u16,
-    number: u64,
-    serial: u64,
-    tag: u16,
+    stamp: Stamp,
     telegram: &[u8],
     out: &mut [u8],
 ) -> Option<usize>
     ensures length { result ≡ wrapper_room (length telegram.now) out.old }
-    ensures out { out.new ≡ left result (wrapper S.Sealer.ciphertext S.Sealer.mac key.now session number serial tag telegram.now) out.old }
+    ensures out { out.new ≡ left result (wrapper S.Sealer.ciphertext S.Sealer.mac key.now session stamp.number stamp.serial stamp.tag telegram.now) out.old }
 {
     if telegram.len() > LARGEST_TELEGRAM {
         return None;
     }
-    let size = (telegram.len() + WRAPPER_OVERHEAD) as u16;
-    let lead = wrapper_lead(size, session);
-    wrap::<S>(key, &lead, &nonce_of(number, serial, tag), telegram, out)
+    let lead = wrapper_lead(telegram.len() + WRAPPER_OVERHEAD, session);
+    wrap::<S>(key, &lead, &stamp.nonce(), telegram, out)
 }

@@ -2,9 +2,11 @@
 ghost use Rattle.frames.specs.Telegrams.{good_family, sign_in, signed, telegram_kind};
 ghost use Rattle.std.specs.Prelude.{◌≡◌};
 
-use crate::headers::{part_at, stated_kind};
-use crate::{AUTHENTICATE, AUTHENTICATE_LENGTH};
+use crate::AUTHENTICATE_LENGTH;
+use crate::headers::stated_kind;
+use crate::kinds::Kind;
 use cipher::Block;
+use octets::runs::part_at;
 use sealer::LARGEST_TELEGRAM;
 
 #[derive(Clone, Copy, PartialEq, Eq)]
@@ -45,10 +47,7 @@ pub fn classify(telegram: &[u8]) -> Telegram
         [0x06, 0x10, 0x09, 0x53, ..] => Telegram::Authenticate,
         // the last octet is not read
         [0x06, 0x10, 0x09, 0x54, 0, 8, status, _] => Telegram::Status(*status),
-        _ => match family(telegram) {
-            Some(family) => Telegram::Good(family),
-            None => Telegram::Other,
-        },
+        _ => family(telegram).map_or(Telegram::Other, Telegram::Good),
     }
 }
 
@@ -57,7 +56,10 @@ pub fn authenticate(telegram: &[u8]) -> Option<SignIn>
     ensures { signed result ≡ sign_in telegram.now }
 {
     let kind = stated_kind(telegram)?;
-    if kind != AUTHENTICATE || telegram.len() != AUTHENTICATE_LENGTH || telegram[6] != 0 {
+    if kind != Kind::Authenticate as u16
+        || telegram.len() != AUTHENTICATE_LENGTH
+        || telegram[6] != 0
+    {
         return None;
     }
     Some(SignIn {

@@ -1,12 +1,12 @@
 // Writing: the octets of the frames that go out.
 ghost use Rattle.std.specs.Prelude.{◌≡◌, ◌+◌, ◌≤◌, [], ◌∷◌, ◌++◌, length};
 ghost use Rattle.frames.specs.Limits.{largest_frame, no_session_length};
+ghost use Rattle.frames.specs.Kinds.{kind_number};
 ghost use Rattle.frames.specs.Writing.{
   authenticate_lead,
   header,
   left,
   no_session,
-  nonce,
   notice_lead,
   response_lead,
   room,
@@ -14,64 +14,67 @@ ghost use Rattle.frames.specs.Writing.{
   wrapper_lead,
 };
 
+use crate::kinds::Kind;
 use crate::{
-    AUTHENTICATE, AUTHENTICATE_LENGTH, NO_SESSION_LENGTH, RESPONSE, RESPONSE_LENGTH, STATUS,
-    STATUS_LENGTH, WRAPPER,
+    AUTHENTICATE_LENGTH, NO_SESSION_LENGTH, NOTICE_LENGTH, RESPONSE_LENGTH, STATUS_LENGTH,
 };
-use octets::numbers::{octets_of_u16, octets_of_u48};
-use sealer::Nonce;
+use octets::numbers::Number;
 
-// The six octets that every frame begins with, and the two that follow.
-fn lead(kind: u16, size: u16, a: u8, b: u8) -> [u8; 8]
-    ensures { result ≡ header kind size ++ (a ∷ b ∷ []) }
+// The six octets that every frame begins with.
+fn header(kind: Kind, size: usize) -> [u8; 6]
+    requires { size ≤ largest_frame }
+    ensures { result ≡ header (kind_number kind) size }
 {
-    let [kind_high, kind_low] = octets_of_u16(kind);
-    let [size_high, size_low] = octets_of_u16(size);
-    [0x06, 0x10, kind_high, kind_low, size_high, size_low, a, b]
+    let [kind_high, kind_low]: [u8; 2] = (kind as u16).octets();
+    let [size_high, size_low]: [u8; 2] = (size as u16).octets();
+    [0x06, 0x10, kind_high, kind_low, size_high, size_low]
+}
+
+// The same and the two octets that follow.
+fn lead(kind: Kind, size: usize, last: [u8; 2]) -> [u8; 8]
+    requires { size ≤ largest_frame }
+    ensures { result ≡ header (kind_number kind) size ++ last }
+{
+    let [a, b, c, d, e, f] = header(kind, size);
+    let [g, h] = last;
+    [a, b, c, d, e, f, g, h]
 }
 
 // What stands before the nonce of a secure wrapper; `size` is the length of the whole frame.
-pub(crate) fn wrapper_lead(size: u16, session: u16) -> [u8; 8]
+#[tactic(auto, unfolding(crate::specs::Writing::wrapper_lead))]
+pub(crate) fn wrapper_lead(size: usize, session: u16) -> [u8; 8]
+    requires { size ≤ largest_frame }
     ensures { result ≡ wrapper_lead size session }
 {
-    let [high, low] = octets_of_u16(session);
-    lead(WRAPPER, size, high, low)
+    lead(Kind::Wrapper, size, session.octets())
 }
 
+#[tactic(auto, unfolding(crate::specs::Writing::response_lead))]
 pub(crate) fn response_lead(session: u16) -> [u8; 8]
     ensures { result ≡ response_lead session }
 {
-    let [high, low] = octets_of_u16(session);
-    lead(RESPONSE, RESPONSE_LENGTH, high, low)
+    lead(Kind::Response, RESPONSE_LENGTH, session.octets())
 }
 
+#[tactic(auto, unfolding(crate::specs::Writing::authenticate_lead))]
 pub(crate) fn authenticate_lead(user: u8) -> [u8; 8]
     ensures { result ≡ authenticate_lead user }
 {
-    lead(AUTHENTICATE, AUTHENTICATE_LENGTH as u16, 0, user)
+    lead(Kind::Authenticate, AUTHENTICATE_LENGTH, [0, user])
 }
 
+#[tactic(auto, unfolding(crate::specs::Writing::notice_lead))]
 pub(crate) fn notice_lead() -> [u8; 6]
     ensures { result ≡ notice_lead }
 {
-    [0x06, 0x10, 0x09, 0x55, 0x00, 0x24]
-}
-
-// Of number, or time, and serial the low 48 bits count.
-pub(crate) fn nonce_of(number: u64, serial: u64, tag: u16) -> Nonce
-    ensures { result ≡ nonce number serial tag }
-{
-    let [n0, n1, n2, n3, n4, n5] = octets_of_u48(number);
-    let [s0, s1, s2, s3, s4, s5] = octets_of_u48(serial);
-    let [t0, t1] = octets_of_u16(tag);
-    [n0, n1, n2, n3, n4, n5, s0, s1, s2, s3, s4, s5, t0, t1]
+    header(Kind::Notice, NOTICE_LENGTH)
 }
 
 // A session status, which goes out as the telegram of a secure wrapper.
 pub fn status_telegram(code: u8) -> [u8; 8]
     ensures { result ≡ status code }
 {
-    lead(STATUS, STATUS_LENGTH, code, 0)
+    lead(Kind::Status, STATUS_LENGTH, [code, 0])
 }
 
 // Puts three runs, one after the other, to the front of the output, and answers their length, or leaves the output as it is.
@@ -97,10 +100,6 @@ pub fn refuse_session(out: &mut [u8]) -> Option<usize>
     ensures length { result ≡ room no_session_length out.old }
     ensures out { out.new ≡ left result no_session out.old }
 {
-    let n = NO_SESSION_LENGTH;
-    if out.len() < n {
-        return None;
-    }
-    out[..n].copy_from_slice(&lead(RESPONSE, n as u16, 0, 0));
-    Some(n)
+    *out.first_chunk_mut()? = lead(Kind::Response, NO_SESSION_LENGTH, [0, 0]);
+    Some(NO_SESSION_LENGTH)
 }

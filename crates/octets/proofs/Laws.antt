@@ -61,6 +61,13 @@ run_from (suc n) at xs h =
 pub run_is_part : law.RunIsPart
 run_is_part = run_from
 
+-- a number is read out of the part that it stands in
+pub number_of_part : (n at : ℕ) (xs : List ℕ) → at + n ≤ length xs → value (run n 0 (take n (drop at xs))) ≡ value (run n at xs)
+number_of_part n at xs h =
+    let part = take n (drop at xs) in
+    let long : length part ≡ n = simp (length-take, length-drop) (omega arith) in
+    ap value (run_from n 0 part (omega (arith, long)) ∙ take_all n part (omega (arith, long)) ∙ sym (run_from n at xs h))
+
 pub number_of_whole : law.NumberOfWhole
 number_of_whole xs = ap value (run_from (length xs) 0 xs (omega arith) ∙ take_all (length xs) xs (omega arith))
 

@@ -1,28 +1,25 @@
 -- A loop that XORs one run into another, place by place. Assumes nothing.
-use Rattle.std.proofs.Common.{◌≡◌, ℕ, zero, suc, ◌+◌, ◌<◌, ◌≤◌, min, List, [], ◌∷◌, length, get_or, set, refl, ap, add-one, arith}
+use Rattle.std.proofs.Common.{◌≡◌, ℕ, zero, suc, ◌+◌, ◌<◌, ◌≤◌, min, List, [], ◌∷◌, length, get_or, set, take, refl, ap, add-one, arith}
 use lib.Bits.{bit_xor}
 use Rattle.octets.specs.Runs.{xor}
 
--- xs with its first n octets XORed with those of ys
-abbrev pub xor_to : ℕ → List ℕ → List ℕ → List ℕ
-xor_to zero xs ys = xs
-xor_to (suc n) [] ys = []
-xor_to (suc n) (x ∷ xs) [] = x ∷ xs
-xor_to (suc n) (x ∷ xs) (y ∷ ys) = bit_xor x y ∷ xor_to n xs ys
+pub xor_none : (xs : List ℕ) → xor xs [] ≡ xs
+xor_none [] = refl
+xor_none (x ∷ xs) = refl
 
-xor_to_suc : (i : ℕ) (xs ys : List ℕ) → i < length xs → i < length ys → set (xor_to i xs ys) i (bit_xor (get_or (xor_to i xs ys) i 0) (get_or ys i 0)) ≡ xor_to (suc i) xs ys
-xor_to_suc i [] ys h g = absurd (omega arith)
-xor_to_suc i (x ∷ xs) [] h g = absurd (omega arith)
-xor_to_suc zero (x ∷ xs) (y ∷ ys) h g = refl
-xor_to_suc (suc i) (x ∷ xs) (y ∷ ys) h g = ap (λ (l : List ℕ). bit_xor x y ∷ l) (xor_to_suc i xs ys (omega arith) (omega arith))
+xor_suc : (i : ℕ) (xs ys : List ℕ) → i < length xs → i < length ys → xor xs (take (suc i) ys) ≡ set (xor xs (take i ys)) i (bit_xor (get_or (xor xs (take i ys)) i 0) (get_or ys i 0))
+xor_suc i [] ys h g = absurd (omega arith)
+xor_suc i (x ∷ xs) [] h g = absurd (omega arith)
+xor_suc zero (x ∷ xs) (y ∷ ys) h g = ap (λ (l : List ℕ). bit_xor x y ∷ l) (xor_none xs)
+xor_suc (suc i) (x ∷ xs) (y ∷ ys) h g = ap (λ (l : List ℕ). bit_xor x y ∷ l) (xor_suc i xs ys (omega arith) (omega arith))
 
-pub xor_to_more : (i : ℕ) (xs ys zs : List ℕ) → i < length xs → i < length ys → zs ≡ xor_to i xs ys → set zs i (bit_xor (get_or zs i 0) (get_or ys i 0)) ≡ xor_to (i + 1) xs ys
-xor_to_more i xs ys zs h g e = rw (e, add-one) (xor_to_suc i xs ys h g)
+-- one more place; the first half is for `grind` to find it by
+pub xor_more : (i : ℕ) (xs ys : List ℕ) → i < length xs → i < length ys → (xor xs (take i ys) ≡ xor xs (take i ys)) × (xor xs (take (i + 1) ys) ≡ set (xor xs (take i ys)) i (bit_xor (get_or (xor xs (take i ys)) i 0) (get_or ys i 0)))
+xor_more i xs ys h g = (refl, rw add-one (xor_suc i xs ys h g))
 
-pub xor_to_all : (n : ℕ) (xs ys : List ℕ) → min (length xs) (length ys) ≤ n → xor_to n xs ys ≡ xor xs ys
-xor_to_all zero [] ys h = refl
-xor_to_all zero (x ∷ xs) [] h = refl
-xor_to_all zero (x ∷ xs) (y ∷ ys) h = absurd (omega arith)
-xor_to_all (suc n) [] ys h = refl
-xor_to_all (suc n) (x ∷ xs) [] h = refl
-xor_to_all (suc n) (x ∷ xs) (y ∷ ys) h = ap (λ (l : List ℕ). bit_xor x y ∷ l) (xor_to_all n xs ys (omega arith))
+pub xor_all : (n : ℕ) (xs ys : List ℕ) → min (length xs) (length ys) ≤ n → xor xs (take n ys) ≡ xor xs ys
+xor_all n [] ys h = refl
+xor_all zero (x ∷ xs) [] h = refl
+xor_all zero (x ∷ xs) (y ∷ ys) h = absurd (omega arith)
+xor_all (suc n) (x ∷ xs) [] h = refl
+xor_all (suc n) (x ∷ xs) (y ∷ ys) h = ap (λ (l : List ℕ). bit_xor x y ∷ l) (xor_all n xs ys (omega arith))

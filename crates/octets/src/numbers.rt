@@ -1,94 +1,86 @@
-// Numbers of 16, 32 and 48 bits in octets, the highest first.
-ghost use Rattle.std.specs.Prelude.{◌≡◌, ◌+◌, ◌^◌, ◌<◌, ◌≤◌, length};
+// Numbers in octets, the highest first.
+ghost use Rattle.std.specs.Prelude.{◌≡◌, ℕ, ◌+◌, ◌^◌, ◌<◌, ◌≤◌, length};
 ghost use Rattle.octets.specs.Numbers.{octets_of};
 ghost use Rattle.octets.specs.Runs.{number, over_at};
 
-pub fn u16_of(octets: &[u8; 2]) -> u16
-    ensures { result ≡ number 2 0 octets.now }
-{
-    u16::from_be_bytes(*octets)
+use crate::runs::{part_at, put};
+
+// A type for numbers of N octets.
+pub trait Number<const N: usize>: Copy {
+    // the number that it is
+    ghost value: { Self → ℕ };
+
+    fn of(octets: &[u8; N]) -> Self
+        ensures value { value result ≡ number N 0 octets.now }
+        ensures below { value result < 256 ^ N };
+
+    // A number that N octets cannot hold is cut off at the high end.
+    fn octets(self) -> [u8; N]
+        ensures { result ≡ octets_of N (value self) };
+
+    // a law, whose value is its proof: there is one for each number
+    ghost apart: { (x y : Self) → value x ≡ value y → x ≡ y };
 }
 
-pub fn u32_of(octets: &[u8; 4]) -> u32
-    ensures { result ≡ number 4 0 octets.now }
-{
-    u32::from_be_bytes(*octets)
+impl Number<2> for u16 {
+    ghost value = { λ n. n };
+
+    ghost apart = { λ _ _ same. same };
+
+    fn of(octets: &[u8; 2]) -> u16 {
+        u16::from_be_bytes(*octets)
+    }
+
+    fn octets(self) -> [u8; 2] {
+        u16::to_be_bytes(self)
+    }
 }
 
-pub fn u48_of(octets: &[u8; 6]) -> u64
-    ensures value { result ≡ number 6 0 octets.now }
-    ensures below { result < 2 ^ 48 }
-{
-    let [a, b, c, d, e, f] = *octets;
-    u64::from_be_bytes([0, 0, a, b, c, d, e, f])
+impl Number<4> for u32 {
+    ghost value = { λ n. n };
+
+    ghost apart = { λ _ _ same. same };
+
+    fn of(octets: &[u8; 4]) -> u32 {
+        u32::from_be_bytes(*octets)
+    }
+
+    fn octets(self) -> [u8; 4] {
+        u32::to_be_bytes(self)
+    }
 }
 
-pub fn octets_of_u16(n: u16) -> [u8; 2]
-    ensures { result ≡ octets_of 2 n }
-{
-    u16::to_be_bytes(n)
+// 48 bits, the low ones of a u64.
+impl Number<6> for u64 {
+    ghost value = { λ n. n };
+
+    ghost apart = { λ _ _ same. same };
+
+    fn of(octets: &[u8; 6]) -> u64 {
+        let [a, b, c, d, e, f] = *octets;
+        u64::from_be_bytes([0, 0, a, b, c, d, e, f])
+    }
+
+    fn octets(self) -> [u8; 6] {
+        let [_, _, a, b, c, d, e, f] = self.to_be_bytes();
+        [a, b, c, d, e, f]
+    }
 }
 
-pub fn octets_of_u32(n: u32) -> [u8; 4]
-    ensures { result ≡ octets_of 4 n }
+// The number in N octets from a place on.
+#[tactic(auto, using(crate::proofs::Laws::number_of_part))]
+pub fn number_at<T: Number<N>, const N: usize>(octets: &[u8], at: usize) -> T
+    requires { at + N ≤ length octets.now }
+    ensures value { T.value result ≡ number N at octets.now }
+    ensures below { T.value result < 256 ^ N }
 {
-    u32::to_be_bytes(n)
+    T::of(part_at(octets, at))
 }
 
-// The low 48 bits of a number.
-pub fn octets_of_u48(n: u64) -> [u8; 6]
-    ensures { result ≡ octets_of 6 n }
+// Writes a number in N octets from a place on.
+pub fn put_number<T: Number<N>, const N: usize>(out: &mut [u8], at: usize, n: T)
+    requires { at + N ≤ length out.old }
+    ensures { out.new ≡ over_at at (octets_of N (T.value n)) out.old }
 {
-    let [_, _, a, b, c, d, e, f] = n.to_be_bytes();
-    [a, b, c, d, e, f]
-}
-
-pub fn u16_at(octets: &[u8], at: usize) -> u16
-    requires { at + 2 ≤ length octets.now }
-    ensures { result ≡ number 2 at octets.now }
-{
-    u16_of(&[octets[at], octets[at + 1]])
-}
-
-pub fn u32_at(octets: &[u8], at: usize) -> u32
-    requires { at + 4 ≤ length octets.now }
-    ensures { result ≡ number 4 at octets.now }
-{
-    u32_of(&[octets[at], octets[at + 1], octets[at + 2], octets[at + 3]])
-}
-
-pub fn u48_at(octets: &[u8], at: usize) -> u64
-    requires { at + 6 ≤ length octets.now }
-    ensures value { result ≡ number 6 at octets.now }
-    ensures below { result < 2 ^ 48 }
-{
-    u48_of(&[
-        octets[at],
-        octets[at + 1],
-        octets[at + 2],
-        octets[at + 3],
-        octets[at + 4],
-        octets[at + 5],
-    ])
-}
-
-pub fn put_u16(out: &mut [u8], at: usize, n: u16)
-    requires { at + 2 ≤ length out.old }
-    ensures { out.new ≡ over_at at (octets_of 2 n) out.old }
-{
-    out[at..at + 2].copy_from_slice(&octets_of_u16(n));
-}
-
-pub fn put_u32(out: &mut [u8], at: usize, n: u32)
-    requires { at + 4 ≤ length out.old }
-    ensures { out.new ≡ over_at at (octets_of 4 n) out.old }
-{
-    out[at..at + 4].copy_from_slice(&octets_of_u32(n));
-}
-
-pub fn put_u48(out: &mut [u8], at: usize, n: u64)
-    requires { at + 6 ≤ length out.old }
-    ensures { out.new ≡ over_at at (octets_of 6 n) out.old }
-{
-    out[at..at + 6].copy_from_slice(&octets_of_u48(n));
+    put(out, at, &n.octets());
 }

@@ -14,7 +14,8 @@ use Rattle.rules.specs.Limits.{last_time, numbers, session_numbers}
 use Rattle.rules.specs.Making.{acceptable, latency, sync}
 use Rattle.rules.specs.Meaning.{Meaning}
 use Rattle.rules.specs.Model.{Model, new}
-use Rattle.rules.specs.Rules.{arrived, next, roomy, unread, with_room}
+use Rattle.rules.specs.Answers.{unread}
+use Rattle.rules.specs.Rules.{arrived, next, roomy, with_room}
 use Rattle.rules.specs.Runs.{Event, event, history, state}
 use Rattle.rules.specs.Sessions.{first_lapsed}
 use Rattle.rules.specs.Fit.{Fit}
@@ -41,7 +42,7 @@ module _ (set : Settings) (M : Meaning) (proper : ProperSettings set) where
 
   arrived_fine : (g : Model) (frame offer : List ℕ) (lot : ℕ) (b : Buffers) → Octets frame → Octets offer → Fit g → (o : Result Shape Unreadable) → reading frame ≡ o
       → Fine set M g (arrive frame offer lot b) (arrived set M g offer lot o)
-  arrived_fine g frame offer lot b fo oo f (Err why) rd = refused set M g (arrive frame offer lot b) (unread set M why) refl f
+  arrived_fine g frame offer lot b fo oo f (Err why) rd = refused set M g (arrive frame offer lot b) (unread why) refl f
   arrived_fine g frame offer lot b fo oo f (Ok (a_request x)) rd = request_fine set M proper g frame offer lot b oo f x rd
   arrived_fine g frame offer lot b fo oo f (Ok (a_notice time serial tag associated nc mc)) rd =
       notice_fine set M g frame offer lot b fo f time serial tag associated nc mc rd (M.opened set.group nc associated [] mc)

@@ -15,7 +15,8 @@ use Rattle.rules.specs.Limits.{last_time, may_deliver, numbers, slots}
 use Rattle.rules.specs.Making.{latency, own_serial}
 use Rattle.rules.specs.Meaning.{Meaning}
 use Rattle.rules.specs.Model.{Model, Session}
-use Rattle.rules.specs.Rules.{act, announced, arrived, due_now, end_lapsed, good_offer, group_wrapper, hung_up, noticed, opened_session, roomy, send_in, send_signed, sign, unread, with_room, wrapper_of}
+use Rattle.rules.specs.Answers.{unread}
+use Rattle.rules.specs.Rules.{act, announced, arrived, due_now, end_lapsed, good_offer, group_wrapper, hung_up, noticed, opened_session, roomy, send_in, send_signed, sign, with_room, wrapper_of}
 use Rattle.rules.specs.Sessions.{above, first_lapsed, lapsed, signs_in}
 use Rattle.rules.specs.Theorems.{RefusalsChangeNothing}
 use Rattle.rules.proofs.Facts.{cond_case}
@@ -71,7 +72,7 @@ module _ (set : Settings) (M : Meaning) (g : Model) where
   notices time serial tag lot (Some t) = done _ _ refl
 
   arrives : (offer : List ℕ) (lot : ℕ) (o : Result Shape Unreadable) → Unmoved (arrived set M g offer lot o)
-  arrives offer lot (Err why) = left (unread set M why)
+  arrives offer lot (Err why) = left (unread why)
   arrives offer lot (Ok (a_request x)) = cond_case Unmoved (good_offer set M g offer) _ _
       (λ _. cond_case Unmoved (ltb g.held slots) _ _ (λ _. done _ _ refl) (λ _. done _ _ refl)) (λ _. left no.Offer)
   arrives offer lot (Ok (a_notice time serial tag associated nc mc)) = notices time serial tag lot (M.opened set.group nc associated [] mc)

@@ -1,5 +1,7 @@
 -- The number and the values of each answer and refusal. Assumes nothing.
 use Rattle.std.specs.Prelude.{ℕ, List, [], ◌∷◌, Ok, Err, Result}
+use Rattle.frames.specs.declared.reading.Unreadable.{Unreadable}
+use Rattle.frames.specs.declared.reading.Unreadable.TheVariants as frame
 use Rattle.rules.specs.declared.answers.Answer.{Answer}
 use Rattle.rules.specs.declared.answers.Answer.TheVariants.{Nothing, Delivered, Frame, Sealed, Taken}
 use Rattle.rules.specs.declared.answers.Refusal.{Refusal}
@@ -36,6 +38,12 @@ refusal_number SignIn = 11
 refusal_number NumbersSpent = 12
 refusal_number TimesSpent = 13
 refusal_number Settings = 14
+
+-- why a frame that is not read is refused
+abbrev pub unread : Unreadable → Refusal
+unread frame.Header = Header
+unread frame.Kind = Kind
+unread frame.Length = Length
 
 -- what the host is told: the number and the values of an answer, or the number of a refusal
 pub data Told : Type 0 where

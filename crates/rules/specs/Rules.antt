@@ -8,13 +8,12 @@ use Rattle.frames.specs.Sealing.{sealed_notice, sealed_response, wrapper}
 use Rattle.frames.specs.Telegrams.{is_good, telegram_kind}
 use Rattle.frames.specs.Writing.{no_session, status}
 use Rattle.frames.specs.declared.reading.Unreadable.{Unreadable}
-use Rattle.frames.specs.declared.reading.Unreadable.TheVariants.{Header, Kind, Length}
 use Rattle.frames.specs.declared.telegrams.Telegram.{Telegram}
 use Rattle.frames.specs.declared.telegrams.Telegram.TheVariants.{Authenticate, Status, Good, Other}
 use Rattle.rules.specs.declared.answers.Answer.TheVariants.{Nothing, Delivered, Frame, Sealed, Taken}
-use Rattle.rules.specs.declared.answers.Refusal.{Refusal}
 use Rattle.rules.specs.declared.answers.Refusal.TheVariants as no
 use Rattle.rules.specs.declared.settings.Settings.{Settings}
+use Rattle.rules.specs.Answers.{unread}
 use Rattle.rules.specs.Calls.{Buffers, Call, Step, announce, arrive, due, hang_up, pass, quietly, refuse, send}
 use Rattle.rules.specs.GroupTime.{heard, next_time, notice_serial, notice_tag, notified_at, sent_at, tag_of, within}
 use Rattle.rules.specs.Limits.{last_time, may_deliver, numbers, slots}
@@ -127,11 +126,6 @@ module _ (set : Settings) (M : Meaning) where
   noticed g time serial tag lot (Some t) = quietly (heard set g time serial tag lot) Taken
 
   -- ARRIVE
-
-  abbrev pub unread : Unreadable → Refusal
-  unread Header = no.Header
-  unread Kind = no.Kind
-  unread Length = no.Length
 
   abbrev pub arrived : Model → List ℕ → ℕ → Result Shape Unreadable → Step
   arrived g offer lot (Err why) = refuse g (unread why)

@@ -2,6 +2,8 @@
 ghost use Rattle.rules.specs.Answers.{answer_number, refusal_number};
 ghost use Rattle.std.specs.Prelude.{◌≡◌};
 
+use frames::reading::Unreadable;
+
 #[derive(Clone, Copy, PartialEq, Eq)]
 pub enum Answer {
     Nothing,
@@ -24,6 +26,7 @@ pub enum Answer {
 }
 
 impl Answer {
+    // By cases: the variants hold values, and two have one number, so `as` cannot say it.
     pub fn number(self) -> u8
         ensures { result ≡ answer_number self }
     {
@@ -40,41 +43,42 @@ impl Answer {
 // Why a call is refused: the question that was answered no.
 #[derive(Clone, Copy, PartialEq, Eq)]
 pub enum Refusal {
-    Buffers,
-    Header,
-    Kind,
-    Length,
-    Offer,
-    Session,
-    OwnSerial,
-    Number,
-    Opening,
-    Telegram,
-    SignIn,
-    NumbersSpent,
-    TimesSpent,
-    Settings,
+    Buffers = 1,
+    Header = 2,
+    Kind = 3,
+    Length = 4,
+    Offer = 5,
+    Session = 6,
+    OwnSerial = 7,
+    Number = 8,
+    Opening = 9,
+    Telegram = 10,
+    SignIn = 11,
+    NumbersSpent = 12,
+    TimesSpent = 13,
+    Settings = 14,
 }
 
 impl Refusal {
     pub fn number(self) -> u8
         ensures { result ≡ refusal_number self }
     {
-        match self {
-            Refusal::Buffers => 1,
-            Refusal::Header => 2,
-            Refusal::Kind => 3,
-            Refusal::Length => 4,
-            Refusal::Offer => 5,
-            Refusal::Session => 6,
-            Refusal::OwnSerial => 7,
-            Refusal::Number => 8,
-            Refusal::Opening => 9,
-            Refusal::Telegram => 10,
-            Refusal::SignIn => 11,
-            Refusal::NumbersSpent => 12,
-            Refusal::TimesSpent => 13,
-            Refusal::Settings => 14,
+        self as u8
+    }
+}
+
+// A frame that is not read.
+impl From<Unreadable> for Refusal {
+    ghost use Rattle.rules.specs.Answers.{unread};
+    ghost use Rattle.std.specs.Prelude.{◌≡◌};
+
+    ghost from_gives = { λ why refusal. refusal ≡ unread why };
+
+    fn from(why: Unreadable) -> Refusal {
+        match why {
+            Unreadable::Header => Refusal::Header,
+            Unreadable::Kind => Refusal::Kind,
+            Unreadable::Length => Refusal::Length,
         }
     }
 }

@@ -5,6 +5,7 @@
 pub mod answers;
 pub mod limits;
 pub mod settings;
+pub mod tolerances;
 
 ghost use Rattle.rules.specs.Law.{RunsKeepTheLaw};
 ghost use Rattle.rules.specs.Meaning.{meant};

@@ -1,7 +1,10 @@
 // Limits that several crates share; specs/Limits.antt has the same.
 
 // Numbers of wrappers and group times lie below this.
-pub const NUMBERS: u64 = 0x1_0000_0000_0000;
+pub const NUMBERS: u64 = 1 << 48;
+
+// The timer's largest value.
+pub const LAST_TIME: u64 = NUMBERS - 1;
 
 // Wrappers of this session are of the group, and deliveries from it are to this user.
 pub const GROUP: u16 = 0;

@@ -7,15 +7,17 @@ ghost use Rattle.rules.specs.Limits.{largest_latency};
 ghost use Rattle.rules.specs.Making.{acceptable, hash_of, latency, own_serial, sync};
 
 use crate::limits::NUMBERS;
+use crate::tolerances::Tolerances;
 use cipher::Block;
-use octets::numbers::u48_of;
+use octets::numbers::Number;
 
 const DEFAULT_LATENCY: u32 = 1_000;
 
 const LARGEST_LATENCY: u32 = 10_000;
 
 // A user who may sign in, by the hash of the password; a user who is not present has no hash.
-#[derive(Clone, Copy)]
+// A flag and not an Option: the form of settings is given, and all eight users lie in them.
+#[derive(Clone, Copy, Default)]
 pub struct User {
     pub present: bool,
     pub hash: Block,
@@ -43,7 +45,7 @@ fn serial_of(octets: &[u8; 6]) -> u64
     ensures value { result ≡ value octets.now }
     ensures below { result < 2 ^ 48 }
 {
-    u48_of(octets)
+    u64::of(octets)
 }
 
 // There is nothing to compute: the type has the length.
@@ -81,6 +83,18 @@ impl Settings {
         }
     }
 
+    // Both, as the clock takes them.
+    pub fn tolerances(&self) -> Tolerances
+        requires { acceptable self.now ≡ true }
+        ensures latency { result.latency ≡ latency self.now }
+        ensures sync { result.sync ≡ sync self.now }
+    {
+        Tolerances {
+            latency: self.latency(),
+            sync: self.sync(),
+        }
+    }
+
     pub fn own_serial(&self) -> u64
         ensures value { result ≡ own_serial self.now }
         ensures below { result < 2 ^ 48 }
@@ -99,10 +113,7 @@ impl Settings {
     pub fn hash_of(&self, user: u8) -> Option<Block>
         ensures { result ≡ hash_of self.now user }
     {
-        if user < 1 || user > 8 {
-            return None;
-        }
-        let user = self.users[user as usize - 1];
-        if user.present { Some(user.hash) } else { None }
+        let user = self.users.get((user as usize).checked_sub(1)?)?;
+        user.present.then_some(user.hash)
     }
 }

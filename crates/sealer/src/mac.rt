@@ -10,7 +10,7 @@ ghost use Rattle.sealer.specs.Sealing.{same};
 use crate::Nonce;
 use crate::counter::mask_block;
 use cipher::{Block, BlockCipher};
-use octets::numbers::octets_of_u16;
+use octets::numbers::Number;
 use octets::runs::xor_into;
 
 // CBC that takes its input octet by octet: `at` octets of the current block are XORed into the state already.
@@ -59,7 +59,7 @@ impl Chain {
 fn length_octets(xs: &[u8]) -> [u8; 2]
     ensures { result ≡ octets_of 2 (length xs.now) }
 {
-    octets_of_u16((xs.len() % 65_536) as u16)
+    ((xs.len() % 65_536) as u16).octets()
 }
 
 fn raw<C: BlockCipher>(

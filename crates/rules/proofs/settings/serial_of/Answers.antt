@@ -11,6 +11,6 @@ returns c =
     record {
       octets = all_octets octets c.fits-octets;
       long = c.told-octets;
-      value = c.u48_of.ensures.value ∙ subst (λ n. number n 0 octets ≡ value octets) c.told-octets (number_of_whole octets);
-      below = c.u48_of.ensures.below;
+      value = c.of.ensures.value ∙ subst (λ n. number n 0 octets ≡ value octets) c.told-octets (number_of_whole octets);
+      below = c.of.ensures.below;
     }
