@@ -1,9 +1,8 @@
 // The gateway that a script works on, over the cipher and the sealer that its settings name.
-use crate::items::Call;
 use crate::settings::{Cipher, Given, Sealing};
 use cipher::aes::Aes128;
 use cipher::bench::Bench;
-use gateway::Gateway;
+use gateway::{Call, Gateway};
 use rules::answers::{Answer, Refusal};
 use sealer::Sealer;
 use sealer::sealers::{Knx, Reading};
@@ -31,7 +30,7 @@ impl AnyGateway {
 
     pub fn carry_out(
         &mut self,
-        call: &Call,
+        call: Call,
         out: &mut [u8],
         work: &mut [u8],
     ) -> Result<Answer, Refusal> {
@@ -55,22 +54,16 @@ impl AnyGateway {
 
 fn carry_out<S: Sealer>(
     gateway: &mut Gateway<S>,
-    call: &Call,
+    call: Call,
     out: &mut [u8],
     work: &mut [u8],
 ) -> Result<Answer, Refusal> {
     match call {
-        Call::Arrive { frame, offer, lot } => gateway.arrive(
-            frame.as_slice(),
-            offer.as_slice(),
-            *lot,
-            out,
-            work,
-        ),
-        Call::Pass { milliseconds } => Ok(gateway.pass(*milliseconds)),
-        Call::Due { lot } => gateway.due(*lot, out, work),
-        Call::Send { session, telegram } => gateway.send(*session, telegram.as_slice(), out, work),
-        Call::Announce { telegram, lot } => gateway.announce(telegram.as_slice(), *lot, out, work),
-        Call::HangUp { session } => gateway.hang_up(*session, out, work),
+        Call::Arrive { frame, offer, lot } => gateway.arrive(frame, offer, lot, out, work),
+        Call::Pass { milliseconds } => Ok(gateway.pass(milliseconds)),
+        Call::Due { lot } => gateway.due(lot, out, work),
+        Call::Send { session, telegram } => gateway.send(session, telegram, out, work),
+        Call::Announce { telegram, lot } => gateway.announce(telegram, lot, out, work),
+        Call::HangUp { session } => gateway.hang_up(session, out, work),
     }
 }

@@ -11,6 +11,7 @@ mod station;
 mod words;
 
 use faults::{Fault, Stop};
+use items::Octets;
 use station::Station;
 use std::alloc::Global;
 use std::io::{BufRead, BufReader, BufWriter, Write};
@@ -69,7 +70,8 @@ fn carry_out_line<R: BufRead, W: Write>(
         copy(line.as_slice(), output)?;
     } else {
         let text = str::from_utf8(line.as_slice()).map_err(|_| Fault::NotText)?;
-        if let Some(item) = items::read(heap, text)? {
+        let mut octets = Octets::none(heap);
+        if let Some(item) = items::read(text, &mut octets)? {
             station.carry_out(item, output)?;
         }
     }

@@ -3,8 +3,9 @@ use crate::answers::Answered;
 use crate::book::Book;
 use crate::faults::Fault;
 use crate::gateways::AnyGateway;
-use crate::items::{Call, Item};
+use crate::items::Item;
 use crate::settings::Given;
+use gateway::Call;
 use rules::answers::{Answer, Refusal};
 use std::alloc::{AllocError, Global};
 use std::io::Write;
@@ -39,7 +40,7 @@ impl Station {
         match item {
             Item::Setting(setting) => self.given.take(setting),
             Item::Make => self.make(output)?,
-            Item::Call(call) => self.call(&call, output)?,
+            Item::Call(call) => self.call(call, output)?,
             Item::Timer => self.print_timer(output)?,
             Item::Buffers { output, work } => {
                 self.out.resize(output, 0)?;
@@ -66,7 +67,7 @@ impl Station {
         }
     }
 
-    fn call<W: Write>(&mut self, call: &Call, output: &mut W) -> Result<(), Fault> {
+    fn call<W: Write>(&mut self, call: Call, output: &mut W) -> Result<(), Fault> {
         let gateway = self.gateway.as_mut().ok_or(Fault::NoGateway)?;
         let out = self.out.as_mut_slice();
         let answer = gateway.carry_out(call, out, self.work.as_mut_slice());

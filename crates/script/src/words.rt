@@ -3,7 +3,6 @@ ghost use Rattle.std.specs.Ordering.{partial_le};
 ghost use Rattle.std.specs.Prelude.{◌≡◌, IfOk, true};
 
 use crate::faults::Fault;
-use std::alloc::Global;
 use std::str::{FromStr, SplitAsciiWhitespace};
 
 #[derive(Drop)]
@@ -55,30 +54,31 @@ impl<'a> Words<'a> {
             .ok_or(Fault::TooLarge(part, u64::from(most)))
     }
 
-    pub fn octets(&mut self, heap: Global, part: &'static str) -> Result<Vec<u8>, Fault> {
+    // Octets, two digits each, into a buffer; `-` stands for none.
+    pub fn octets<'b>(
+        &mut self,
+        part: &'static str,
+        octets: &'b mut Vec<u8>,
+    ) -> Result<&'b [u8], Fault> {
         let word = self.word(part)?;
-        if word == "-" {
-            return Ok(Vec::new(heap));
+        let digits = if word == "-" { "" } else { word };
+        octets.clear();
+        for pair in digits.as_bytes().chunks(2) {
+            let [high, low] = pair else {
+                return Err(Fault::HalfOctet(part));
+            };
+            octets.push(octet(*high, *low).ok_or(Fault::NotOctets(part))?)?;
         }
-        word.as_bytes()
-            .chunks(2)
-            .map(|pair| -> Result<u8, Fault> {
-                let [high, low] = pair else {
-                    return Err(Fault::HalfOctet(part));
-                };
-                octet(*high, *low).ok_or(Fault::NotOctets(part))
-            })
-            .try_collect(heap)
+        Ok(octets.as_slice())
     }
 
     // Exactly N octets.
     pub fn array<const N: usize>(
         &mut self,
-        heap: Global,
         part: &'static str,
+        octets: &mut Vec<u8>,
     ) -> Result<[u8; N], Fault> {
-        let read = self.octets(heap, part)?;
-        <[u8; N]>::try_from(read.as_slice()).map_err(|_| Fault::WrongLength(part, N))
+        <[u8; N]>::try_from(self.octets(part, octets)?).map_err(|_| Fault::WrongLength(part, N))
     }
 
     pub fn session(&mut self) -> Result<u16, Fault> {
