@@ -73,7 +73,13 @@ fn lines_that_cannot_be_read(rt: HostRuntime) -> Result<(), Fail> {
         let (line, why) = row.split_once(" => ").ok_or("no row")?;
         let script = format!(in heap; "make\n\n# wrong:\n{line}\ntimer\n")?;
         let end = format!(in heap; "line 4: {why}")?;
-        expect(&rt, heap, script.as_str(), "made\n# wrong:\n", Some(end.as_str()))?;
+        expect(
+            &rt,
+            heap,
+            script.as_str(),
+            "made\n# wrong:\n",
+            Some(end.as_str()),
+        )?;
     }
     Ok(())
 }
