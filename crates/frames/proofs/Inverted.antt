@@ -1,6 +1,7 @@
 -- What a frame that was read tells of its octets. Assumes nothing.
 use Rattle.std.proofs.Common.{◌≡◌, ℕ, ◌+◌, ◌-◌, ◌≤◌, List, [], ◌++◌, length, get_or, take, drop, Some, None, Ok, Option, sym, ap, ◌∙◌, arith}
-use Rattle.std.proofs.lemmas.List.{length-drop, length-take-le, take-append-drop, take-take, drop-take, take_all}
+use Rattle.std.proofs.Math.Seq.{take-add}
+use Rattle.std.proofs.lemmas.List.{length-drop, length-take-le, take-append-drop, take_all}
 use Rattle.std.proofs.lemmas.Bool.Decides.{nat_tests}
 use Rattle.octets.specs.Runs.{run}
 use Rattle.octets.proofs.Laws.{octet_at, run_is_part}
@@ -20,21 +21,9 @@ pub from_notice : (o : Option ℕ) (f : List ℕ) (k e t : ℕ) (a n m : List �
 from_notice None f k e t a n m h = let z : ◌≡◌ {A = ℕ} 0 1 = cc in absurd (omega arith)
 from_notice (Some i) f k e t a n m h = (grind (arith, nat_tests), grind (arith, nat_tests))
 
-same_wrapper : (s s' k k' e e' t t' : ℕ) (a a' n n' c c' m m' : List ℕ) → a_wrapper s k e t a n c m ≡ a_wrapper s' k' e' t' a' n' c' m'
-    → (a ≡ a') × (n ≡ n') × (c ≡ c') × (m ≡ m')
-same_wrapper s s' k k' e e' t t' a a' n n' c c' m m' h = (cc, cc, cc, cc)
-
-same_notice : (k k' e e' t t' : ℕ) (a a' n n' m m' : List ℕ) → a_notice k e t a n m ≡ a_notice k' e' t' a' n' m'
-    → (a ≡ a') × (n ≡ n') × (m ≡ m')
-same_notice k k' e e' t t' a a' n n' m m' h = (cc, cc, cc)
-
 -- a front and the part after it are a longer front
 step : (f : List ℕ) (k n j : ℕ) → k + n ≡ j → take k f ++ part n k f ≡ take j f
-step f k n j e =
-    ap (λ (l : List ℕ). l ++ part n k f) (sym (take-take k (k + n) f (omega arith)))
-    ∙ ap (λ (l : List ℕ). take k (take (k + n) f) ++ l) (sym (drop-take k n f))
-    ∙ take-append-drop k (take (k + n) f)
-    ∙ ap (λ i. take i f) e
+step f k n j e = sym (take-add k n f) ∙ ap (λ i. take i f) e
 
 part_length : (f : List ℕ) (n k : ℕ) → k + n ≤ length f → length (part n k f) ≡ n
 part_length f n k h = length-take-le n (drop k f) (rw (length-drop k f) (omega arith))
@@ -56,7 +45,8 @@ wrapper_is_its_parts f session count serial tag a n c m h =
     let p = from_wrapper (stated_kind f) f session count serial tag a n c m h in
     let low : 44 ≤ length f = p.0 in
     let high : length f ≤ 512 = p.1 in
-    let q = same_wrapper _ _ _ _ _ _ _ _ (part 8 0 f) a (part 14 8 f) n (part (length f - 38) 22 f) c (part 16 (length f - 16) f) m p.2 in
+    let same : wrapper_shape f ≡ a_wrapper session count serial tag a n c m = p.2 in
+    let q : (part 8 0 f ≡ a) × (part 14 8 f ≡ n) × (part (length f - 38) 22 f ≡ c) × (part 16 (length f - 16) f ≡ m) = (cc, cc, cc, cc) in
     let lc : length c ≡ length f - 38 = ap length (sym q.2) ∙ part_length f (length f - 38) 22 (omega arith) in
     let parts : part 8 0 f ++ part 14 8 f ++ part (length f - 38) 22 f ++ part 16 (length f - 16) f ≡ a ++ n ++ c ++ m =
     rw (q.0, q.1, q.2, q.3) in (
@@ -72,7 +62,8 @@ pub notice_is_its_parts : law.NoticeIsItsParts
 notice_is_its_parts f time serial tag a n m h =
     let p = from_notice (stated_kind f) f time serial tag a n m h in
     let size : length f ≡ 36 = p.0 in
-    let q = same_notice _ _ _ _ _ _ (part 6 0 f) a (part 14 6 f) n (part 16 20 f) m p.1 in
+    let same : notice_shape f ≡ a_notice time serial tag a n m = p.1 in
+    let q : (part 6 0 f ≡ a) × (part 14 6 f ≡ n) × (part 16 20 f ≡ m) = (cc, cc, cc) in
     let parts : part 6 0 f ++ part 14 6 f ++ part 16 20 f ≡ a ++ n ++ m = rw (q.0, q.1, q.2) in (
       sym (notice_whole f size) ∙ parts,
       ap length (sym q.0) ∙ part_length f 6 0 (omega arith),

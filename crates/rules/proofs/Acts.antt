@@ -1,5 +1,7 @@
 -- A wrapper of a session that arrives, rule by rule. Assumes nothing.
 use Rattle.std.proofs.Common.{◌≡◌, ℕ, ◌+◌, ◌^◌, ◌<◌, ◌≤◌, true, false, eqb, List, length, take, Some, None, Ok, Option, sym, refl, ap, ◌∙◌, subst, inl, inr, arith}
+use Rattle.std.proofs.lemmas.Option.{none-some}
+use Rattle.std.proofs.lemmas.Bool.{cond_both}
 use Rattle.octets.proofs.Laws.{value_below}
 use Rattle.octets.specs.Runs.{over}
 use Rattle.frames.specs.Reading.{a_wrapper, reading}
@@ -23,7 +25,7 @@ use Rattle.rules.specs.Rules.{act, deliver, end, on, opened_session, own_wrapper
 use Rattle.rules.specs.Runs.{lent, noted}
 use Rattle.rules.specs.Sessions.{above, by_hash, by_parts, lapsed, opened_by, signs_in}
 use Rattle.rules.specs.Fit.{Fit, GoodSession}
-use Rattle.rules.proofs.Facts.{cond_case, no_delivery, none_some, some_some, take_over}
+use Rattle.rules.proofs.Facts.{no_delivery, some_some, take_over}
 use Rattle.rules.proofs.Frames.{cipher, code, lead, signed_frame, status_back, wrapper_back}
 use Rattle.rules.proofs.Moves.{secrets}
 use Rattle.rules.proofs.Steps as step
@@ -32,18 +34,18 @@ use Rattle.rules.proofs.Steps.{Fine, refused}
 -- what a session authenticate that signs in holds
 signed_parts : (set : Settings) (M : Meaning) (s : Session) (o : Option (ℕ × List ℕ)) (u : ℕ) → by_parts set M s o ≡ Some u
     → (p : ℕ × List ℕ) × (o ≡ Some p) × (p.0 ≡ u) × ((hash : List ℕ) × (hash_of set u ≡ Some hash) × (p.1 ≡ authenticate_mac M.mac hash u s.x s.y))
-signed_parts set M s None u e = absurd (none_some u e)
+signed_parts set M s None u e = absurd (none-some u e)
 signed_parts set M s (Some p) u e = hashed (hash_of set p.0) refl e where
   hashed : (h : Option (List ℕ)) → hash_of set p.0 ≡ h → by_hash set M s p.0 p.1 h ≡ Some u
       → (q : ℕ × List ℕ) × (Some p ≡ Some q) × (q.0 ≡ u) × ((hash : List ℕ) × (hash_of set u ≡ Some hash) × (q.1 ≡ authenticate_mac M.mac hash u s.x s.y))
-  hashed None i e = absurd (none_some u e)
-  hashed (Some hash) i e = cond_case
-      (λ (r : Option ℕ). r ≡ Some u → (q : ℕ × List ℕ) × (Some p ≡ Some q) × (q.0 ≡ u) × ((h : List ℕ) × (hash_of set u ≡ Some h) × (q.1 ≡ authenticate_mac M.mac h u s.x s.y)))
+  hashed None i e = absurd (none-some u e)
+  hashed (Some hash) i e = cond_both
       (same p.1 (authenticate_mac M.mac hash p.0 s.x s.y)) _ _
+      (λ (r : Option ℕ). r ≡ Some u → (q : ℕ × List ℕ) × (Some p ≡ Some q) × (q.0 ≡ u) × ((h : List ℕ) × (hash_of set u ≡ Some h) × (q.1 ≡ authenticate_mac M.mac h u s.x s.y)))
       (λ y q.
       let is : p.0 ≡ u = some_some p.0 u q in
       (p, refl, is, (hash, ap (hash_of set) (sym is) ∙ i, same_true _ _ y ∙ ap (λ v. authenticate_mac M.mac hash v s.x s.y) is)))
-      (λ n q. absurd (none_some u q))
+      (λ n q. absurd (none-some u q))
       e
 
 module _ (set : Settings) (M : Meaning) (proper : ProperSettings set) where
@@ -100,28 +102,28 @@ module _ (set : Settings) (M : Meaning) (proper : ProperSettings set) where
     close_fine : closing (telegram_kind t) ≡ true → Fine set M g c (quietly (put g m None) Taken)
     close_fine cl =
         step.wrapper_stops set M g frame offer lot b m count serial tag associated nc ct mc rd s t f at good.nonzero ab un (quietly (put g m None) Taken) Taken refl None
-        (λ n ne. refl) refl (λ k p. absurd (none_some k p)) refl (λ n k user size q. absurd (no_delivery (Ok Taken) refl n k user size (ap Ok q)))
+        (λ n ne. refl) refl (λ k p. absurd (none-some k p)) refl (λ n k user size q. absurd (no_delivery (Ok Taken) refl n k user size (ap Ok q)))
         refl cl
 
     -- what is taken otherwise
     taken_fine : closing (telegram_kind t) ≡ false → Fine set M g c (quietly (on set M g m s count) Taken)
     taken_fine cl =
         step.wrapper_goes set M g frame offer lot b m count serial tag associated nc ct mc rd s t f at good.nonzero ab un (quietly (on set M g m s count) Taken) Taken refl None
-        (λ n ne. refl) refl (λ k p. absurd (none_some k p)) refl (λ n k user size q. absurd (no_delivery (Ok Taken) refl n k user size (ap Ok q)))
-        s.own s.user refl cl (omega arith) good.countable good.fresh (λ k p. absurd (none_some k p)) (λ v p. inl p)
+        (λ n ne. refl) refl (λ k p. absurd (none-some k p)) refl (λ n k user size q. absurd (no_delivery (Ok Taken) refl n k user size (ap Ok q)))
+        s.own s.user refl cl (omega arith) good.countable good.fresh (λ k p. absurd (none-some k p)) (λ v p. inl p)
 
     -- a delivery
     deliver_fine : (user : ℕ) → s.user ≡ Some user → Fine set M g c (deliver set M (on set M g m s count) m count user t)
     deliver_fine user us =
         step.wrapper_goes set M g frame offer lot b m count serial tag associated nc ct mc rd s t f at good.nonzero ab un (deliver set M (on set M g m s count) m count user t) _ refl None
-        (λ n ne. refl) refl (λ k p. absurd (none_some k p)) refl
+        (λ n ne. refl) refl (λ k p. absurd (none-some k p)) refl
         (λ n k u size q.
         let ls : length t ≡ size = cc in
         let eu : user ≡ u = cc in
         let en : n ≡ m = cc in
         let ek : k ≡ count = cc in
         (en, ek, us ∙ ap Some eu, ap (λ j. take j (over t b.out)) (sym ls) ∙ take_over t b.out))
-        s.own s.user refl refl (omega arith) good.countable good.fresh (λ k p. absurd (none_some k p)) (λ v p. inl p)
+        s.own s.user refl refl (omega arith) good.countable good.fresh (λ k p. absurd (none-some k p)) (λ v p. inl p)
 
     -- a sign-in
     grant_fine : (user : ℕ) → s.user ≡ None → telegram_kind t ≡ Authenticate → signs_in set M s t ≡ Some user
@@ -138,7 +140,7 @@ module _ (set : Settings) (M : Meaning) (proper : ProperSettings set) where
         let times = out_time g c m s (status 0) good (omega arith) (omega arith) r refl refl in
         step.wrapper_goes set M g frame offer lot b m count serial tag associated nc ct mc rd s t f at good.nonzero ab un r _ refl (Some (Status 0))
         else kinds seals times (λ n k u size q. absurd (no_delivery _ refl n k u size (ap Ok q)))
-        (s.own + 1) (Some user) refl refl (omega arith) (omega arith) (λ q. absurd (none_some user (sym q)))
+        (s.own + 1) (Some user) refl refl (omega arith) (omega arith) (λ q. absurd (none-some user (sym q)))
         (λ k q. omega (arith, seals k q))
         (λ v q. inr (subst (λ w. SignsIn set M (secrets s) m w (noted g c r)) (some_some user v q) (record {
           granted = ap (has granting) kinds;
@@ -156,14 +158,14 @@ module _ (set : Settings) (M : Meaning) (proper : ProperSettings set) where
 
     act_fine : (u : Option ℕ) (q : Telegram) → s.user ≡ u → telegram_kind t ≡ q → Fine set M g c (act set M g m s count t u q)
     act_fine None Authenticate us kd = sign_fine (signs_in set M s t) us kd refl
-    act_fine None (Status code') us kd = cond_case (Fine set M g c) (eqb code' 5) _ _
+    act_fine None (Status code') us kd = cond_both (eqb code' 5) _ _ (Fine set M g c)
         (λ e. close_fine (ap closing kd ∙ e)) (λ e. taken_fine (ap closing kd ∙ e))
     act_fine None (Good family) us kd = ending_fine 2 refl
     act_fine None Other us kd = ending_fine 2 refl
     act_fine (Some user) Authenticate us kd = taken_fine (ap closing kd)
-    act_fine (Some user) (Status code') us kd = cond_case (Fine set M g c) (eqb code' 5) _ _
+    act_fine (Some user) (Status code') us kd = cond_both (eqb code' 5) _ _ (Fine set M g c)
         (λ e. close_fine (ap closing kd ∙ e)) (λ e. taken_fine (ap closing kd ∙ e))
-    act_fine (Some user) (Good family) us kd = cond_case (Fine set M g c) (may_deliver user family) _ _
+    act_fine (Some user) (Good family) us kd = cond_both (may_deliver user family) _ _ (Fine set M g c)
         (λ _. deliver_fine user us) (λ _. taken_fine (ap closing kd))
     act_fine (Some user) Other us kd = taken_fine (ap closing kd)
 
@@ -178,10 +180,10 @@ module _ (set : Settings) (M : Meaning) (proper : ProperSettings set) where
     pub wrapper_fine : (o : Option Session) → g.sessions m ≡ o
         → Fine set M g (arrive frame offer lot b) (wrapper_of set M g m count serial (λ s. M.opened s.key nc associated ct mc) o)
     wrapper_fine None at = refused set M g (arrive frame offer lot b) no.Session refl f
-    wrapper_fine (Some s) at = cond_case (Fine set M g (arrive frame offer lot b)) (lapsed s) _ _
+    wrapper_fine (Some s) at = cond_both (lapsed s) _ _ (Fine set M g (arrive frame offer lot b))
         (λ _. refused set M g (arrive frame offer lot b) no.Session refl f)
-        (λ _. cond_case (Fine set M g (arrive frame offer lot b)) (eqb serial (own_serial set)) _ _
+        (λ _. cond_both (eqb serial (own_serial set)) _ _ (Fine set M g (arrive frame offer lot b))
         (λ _. refused set M g (arrive frame offer lot b) no.OwnSerial refl f)
-        (λ _. cond_case (Fine set M g (arrive frame offer lot b)) (above s.last count) _ _
+        (λ _. cond_both (above s.last count) _ _ (Fine set M g (arrive frame offer lot b))
         (λ ab. opened_fine s (M.opened s.key nc associated ct mc) at ab refl)
         (λ _. refused set M g (arrive frame offer lot b) no.Number refl f)))

@@ -1,10 +1,11 @@
 -- How many sessions are held, counted over all session numbers. Assumes nothing.
 use Rattle.std.proofs.Common.{◌≡◌, ℕ, zero, suc, ◌+◌, ◌^◌, ◌<◌, ◌≤◌, Bool, true, false, cond, eqb, is_some, Some, None, Option, sym, refl, ap, ◌∙◌, ⊎_elim, zero-le, arith}
-use Rattle.std.proofs.lemmas.Bool.{both_ways, cases_eq, cases_lt, eq-eqb, eqb-true, ne_eqb}
+use Rattle.std.proofs.lemmas.Option.{none-some}
+use Rattle.std.proofs.lemmas.Bool.{both_ways, cases_eq, cases_lt, cond_both, eq-eqb, eqb-true, ne_eqb}
 use Rattle.rules.specs.Limits.{session_numbers, slots}
 use Rattle.rules.specs.Model.{Model, Session, held_after, put}
 use Rattle.rules.specs.Sessions.{first}
-use Rattle.rules.proofs.Facts.{cond_case, none_some, some_some}
+use Rattle.rules.proofs.Facts.{some_some}
 
 abbrev pub bit : Bool → ℕ
 bit b = cond b 1 0
@@ -86,15 +87,15 @@ counted_same g h s e c = record { is = ap (λ f. count session_numbers 0 (λ n. 
 
 -- the first that passes, and whether any does
 pub first_some : (n i m : ℕ) (p : ℕ → Bool) → first n i p ≡ Some m → (p m ≡ true) × (i ≤ m) × (m < i + n)
-first_some zero i m p e = absurd (none_some m e)
-first_some (suc n) i m p e = cond_case (λ (r : Option ℕ). r ≡ Some m → (p m ≡ true) × (i ≤ m) × (m < i + suc n)) (p i) _ _
+first_some zero i m p e = absurd (none-some m e)
+first_some (suc n) i m p e = cond_both (p i) _ _ (λ (r : Option ℕ). r ≡ Some m → (p m ≡ true) × (i ≤ m) × (m < i + suc n))
     (λ y q. let same = some_some i m q in (ap p (sym same) ∙ y, omega arith, omega arith))
     (λ y q. let r = first_some n (i + 1) m p q in (r.0, omega (arith, r.1), omega (arith, r.2)))
     e
 
 pub first_none : (n i : ℕ) (p : ℕ → Bool) → first n i p ≡ None → count n i p ≡ 0
 first_none zero i p e = refl
-first_none (suc n) i p e = cond_case (λ (r : Option ℕ). r ≡ None → count (suc n) i p ≡ 0) (p i) (Some i) (first n (i + 1) p)
-    (λ y q. absurd (none_some i (sym q)))
+first_none (suc n) i p e = cond_both (p i) (Some i) (first n (i + 1) p) (λ (r : Option ℕ). r ≡ None → count (suc n) i p ≡ 0)
+    (λ y q. absurd (none-some i (sym q)))
     (λ y q. let r = first_none n (i + 1) p q in rw (y, r))
     e

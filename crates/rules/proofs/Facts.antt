@@ -1,5 +1,5 @@
 -- Small facts on options, tests and lists. Assumes nothing.
-use Rattle.std.proofs.Common.{◌≡◌, ℕ, suc, ◌<◌, ◌≤◌, Bool, true, false, cond, List, [], ◌∷◌, length, get_or, take, drop, Some, None, Ok, Err, Option, Result, refl, ap, arith}
+use Rattle.std.proofs.Common.{◌≡◌, ℕ, suc, ◌<◌, ◌≤◌, false, List, [], ◌∷◌, length, get_or, take, drop, Some, None, Ok, Option, Result, refl, ap}
 use Rattle.std.proofs.lemmas.List.{take_at}
 use Rattle.std.proofs.lemmas.Bool.{both_ways}
 use Rattle.std.specs.List.{AllByRecursion}
@@ -10,14 +10,8 @@ use Rattle.rules.specs.declared.answers.Answer.TheVariants.{Delivered}
 use Rattle.rules.specs.declared.answers.Refusal.{Refusal}
 use Rattle.rules.specs.Law.{delivered}
 
-pub none_some : {A : Type 0} (x : A) → None ≡ Some x → ⊥
-none_some {A} x p = let z : ◌≡◌ {A = ℕ} 0 1 = cc in omega arith
-
 pub some_some : {A : Type 0} (x y : A) → Some x ≡ Some y → x ≡ y
 some_some {A} x y p = cc
-
-pub err_ok : {A E : Type 0} (e : E) (x : A) → Err e ≡ Ok x → ⊥
-err_ok {A} {E} e x p = let z : ◌≡◌ {A = ℕ} 0 1 = cc in omega arith
 
 pub ok_ok : {A E : Type 0} (x y : A) → ◌≡◌ {A = Result A E} (Ok x) (Ok y) → x ≡ y
 ok_ok {A} {E} x y p = cc
@@ -25,10 +19,6 @@ ok_ok {A} {E} x y p = cc
 pub every_map : {X : Type 0} {P Q : X → Type 0} (xs : List X) → ((x : X) → P x → Q x) → AllByRecursion P xs → AllByRecursion Q xs
 every_map [] f a = tt
 every_map (x ∷ xs) f a = (f x a.0, every_map xs f a.1)
-
-pub cond_case : {A : Type 0} (P : A → Type 0) (b : Bool) (x y : A) → (b ≡ true → P x) → (b ≡ false → P y) → P (cond b x y)
-cond_case P true x y f g = f refl
-cond_case P false x y f g = g refl
 
 -- what was written stands in front
 pub take_over : (w out : List ℕ) → take (length w) (over w out) ≡ w

@@ -1,6 +1,7 @@
 -- Frames of the group that arrive, rule by rule. Assumes nothing.
 use Rattle.std.proofs.Common.{◌≡◌, ℕ, ◌+◌, ◌^◌, ◌<◌, max, true, eqb, ltb, ◌≢◌, ◌↔◌, List, length, take, Some, None, Ok, Option, sym, refl, ap, ◌∙◌, subst, arith}
-use Rattle.std.proofs.lemmas.Bool.{lt-ltb, ltb-false, ltb-true, ne_eqb}
+use Rattle.std.proofs.lemmas.Option.{none-some}
+use Rattle.std.proofs.lemmas.Bool.{cond_both, lt-ltb, ltb-false, ltb-true, ne_eqb}
 use Rattle.octets.proofs.Laws.{number_below}
 use Rattle.octets.specs.Laws.{Octets}
 use Rattle.octets.specs.Runs.{over}
@@ -21,7 +22,7 @@ use Rattle.rules.specs.Rules.{deliver, group_good, group_opened, group_wrapper, 
 use Rattle.rules.specs.Runs.{noted}
 use Rattle.rules.specs.Fit.{Fit}
 use Rattle.rules.proofs.Counting.{counted_same}
-use Rattle.rules.proofs.Facts.{cond_case, no_delivery, none_some, ok_ok, some_some, take_over}
+use Rattle.rules.proofs.Facts.{no_delivery, ok_ok, some_some, take_over}
 use Rattle.rules.proofs.Frames.{notice_read, wrapper_read}
 use Rattle.rules.proofs.Moves.{Still, aside}
 use Rattle.rules.proofs.Steps.{Fine, opens_none, refused}
@@ -41,12 +42,12 @@ wanting_fit (Some w) serial tag s t f v e = f v e
 
 module _ (set : Settings) (g : Model) (time serial tag lot : ℕ) (f : Fit g) (tb : time < 2 ^ 48) (sb : serial < 2 ^ 48) (gb : tag < 2 ^ 16) where
   heard_is : Heard g time (heard set g time serial tag lot)
-  heard_is = cond_case (Heard g time) (ltb g.timer time) (follow set g time lot) _
-      (λ e. record { timer_is = omega (arith, ltb-true g.timer time e); sent_is = refl; sessions_are = refl; held_is = refl; fit = record { timer = omega arith; sessions = f.sessions; wanted = λ w q. absurd (none_some w q); sent = f.sent } })
+  heard_is = cond_both (ltb g.timer time) (follow set g time lot) _ (Heard g time)
+      (λ e. record { timer_is = omega (arith, ltb-true g.timer time e); sent_is = refl; sessions_are = refl; held_is = refl; fit = record { timer = omega arith; sessions = f.sessions; wanted = λ w q. absurd (none-some w q); sent = f.sent } })
       (λ late. let le = ltb-false g.timer time late in
-      cond_case (Heard g time) (within g.timer (sync set) time) (follow set g g.timer lot) _
-      (λ _. record { timer_is = omega arith; sent_is = refl; sessions_are = refl; held_is = refl; fit = record { timer = f.timer; sessions = f.sessions; wanted = λ w q. absurd (none_some w q); sent = f.sent } })
-      (λ _. cond_case (Heard g time) (within g.timer (latency set) time) g (want_reply set g serial tag lot)
+      cond_both (within g.timer (sync set) time) (follow set g g.timer lot) _ (Heard g time)
+      (λ _. record { timer_is = omega arith; sent_is = refl; sessions_are = refl; held_is = refl; fit = record { timer = f.timer; sessions = f.sessions; wanted = λ w q. absurd (none-some w q); sent = f.sent } })
+      (λ _. cond_both (within g.timer (latency set) time) g (want_reply set g serial tag lot) (Heard g time)
       (λ _. record { timer_is = omega arith; sent_is = refl; sessions_are = refl; held_is = refl; fit = f })
       (λ _. record { timer_is = omega arith; sent_is = refl; sessions_are = refl; held_is = refl; fit = record { timer = f.timer; sessions = f.sessions; wanted = wanting_fit g.wanted serial tag sb gb f.wanted; sent = f.sent } })))
 
@@ -124,9 +125,9 @@ module _ (set : Settings) (M : Meaning) (g : Model) (frame offer : List ℕ) (lo
         fit = subst Fit (sym to) h.fit;
         clocks = record {
           ticks = rw (time_is, no_time) (ap (λ k. k.timer) to ∙ h.timer_is ∙ omega (arith, f.timer, time_below));
-          later = λ x q. absurd (none_some x (sym no_time ∙ q));
+          later = λ x q. absurd (none-some x (sym no_time ∙ q));
           kept = λ j q. rw (ap (λ k. k.sent) to ∙ h.sent_is) q;
-          reached = λ x q. absurd (none_some x (sym no_time ∙ q));
+          reached = λ x q. absurd (none-some x (sym no_time ∙ q));
           window = windowed;
           genuine = genuine;
         };
@@ -134,7 +135,7 @@ module _ (set : Settings) (M : Meaning) (g : Model) (frame offer : List ℕ) (lo
       }
 
     good_fine : Fine set M g c (group_good set M g time serial tag lot t)
-    good_fine = cond_case (Fine set M g c) (within g.timer (latency set) time) _ _
+    good_fine = cond_both (within g.timer (latency set) time) _ _ (Fine set M g c)
         (λ w. group_fine (deliver set M (heard set g time serial tag lot) 0 time 0 t) _ refl refl (λ n. refl) refl (sym w)
         (λ n k user size q.
         let ls : length t ≡ size = cc in
@@ -147,10 +148,10 @@ module _ (set : Settings) (M : Meaning) (g : Model) (frame offer : List ℕ) (lo
   module _ (time serial tag : ℕ) (associated nc ct mc : List ℕ) (rd : reading frame ≡ Ok (a_wrapper 0 time serial tag associated nc ct mc)) where
     opened_fine : (o : Option (List ℕ)) → M.opened set.group nc associated ct mc ≡ o → Fine set M g c (group_opened set M g time serial tag lot o)
     opened_fine None un = refused set M g c no.Opening refl f
-    opened_fine (Some t) un = cond_case (Fine set M g c) (is_good t) _ _ (λ _. good_fine time serial tag associated nc ct mc rd t un) (λ _. refused set M g c no.Telegram refl f)
+    opened_fine (Some t) un = cond_both (is_good t) _ _ (Fine set M g c) (λ _. good_fine time serial tag associated nc ct mc rd t un) (λ _. refused set M g c no.Telegram refl f)
 
     pub group_wrapper_fine : Fine set M g c (group_wrapper set M g time serial tag lot (M.opened set.group nc associated ct mc))
-    group_wrapper_fine = cond_case (Fine set M g c) (eqb serial (own_serial set)) _ _
+    group_wrapper_fine = cond_both (eqb serial (own_serial set)) _ _ (Fine set M g c)
         (λ _. refused set M g c no.OwnSerial refl f)
         (λ _. opened_fine (M.opened set.group nc associated ct mc) refl)
 
@@ -179,10 +180,10 @@ module _ (set : Settings) (M : Meaning) (g : Model) (frame offer : List ℕ) (lo
       fit = k.fit;
       clocks = record {
         ticks = let i : time_in (noted g c r) ≡ Some time = ap (given group_time) in_notice in rw i (k.timer_is ∙ omega (arith, f.timer, time_fits));
-        later = λ x q. absurd (none_some x q);
+        later = λ x q. absurd (none-some x q);
         kept = λ j q. rw k.sent_is q;
-        reached = λ x q. absurd (none_some x q);
-        window = λ w q. absurd (none_some w (sym (none_in 0) ∙ q));
+        reached = λ x q. absurd (none-some x q);
+        window = λ w q. absurd (none-some w (sym (none_in 0) ∙ q));
         genuine = λ count user size q. absurd (no_delivery (Ok Taken) refl 0 count user size q);
       };
       counted = counted_same g r.to k.sessions_are k.held_is;

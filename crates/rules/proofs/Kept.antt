@@ -1,6 +1,7 @@
 -- Every run keeps the law. Assumes nothing.
 use Rattle.std.proofs.Common.{◌≡◌, ℕ, zero, suc, ◌+◌, ◌<◌, min, true, false, ◌&&◌, eqb, ltb, leb, ◌≢◌, ◌⊎◌, List, [], ◌∷◌, map, Some, None, Ok, Err, Option, Result, sym, refl, ap, ◌∙◌, subst, ⊎_elim, zero-le, arith}
-use Rattle.std.proofs.lemmas.Bool.{and_parts, eqb-true, ltb-true}
+use Rattle.std.proofs.lemmas.Option.{none-some}
+use Rattle.std.proofs.lemmas.Bool.{and_parts, cond_both, eqb-true, ltb-true}
 use Rattle.std.specs.List.{AllByRecursion}
 use Rattle.octets.specs.Laws.{Octets}
 use Rattle.frames.specs.Reading.{Shape, a_notice, a_request, a_wrapper, reading}
@@ -21,7 +22,7 @@ use Rattle.rules.specs.Sessions.{first_lapsed}
 use Rattle.rules.specs.Fit.{Fit}
 use Rattle.rules.proofs.Acts.{wrapper_fine}
 use Rattle.rules.proofs.Counting.{Counted, count}
-use Rattle.rules.proofs.Facts.{Reached, cond_case, every_map, none_some}
+use Rattle.rules.proofs.Facts.{Reached, every_map}
 use Rattle.rules.proofs.Groups.{group_wrapper_fine, notice_fine}
 use Rattle.rules.proofs.Moves.{Lives, Still, Tied, spoken, tied_kept}
 use Rattle.rules.proofs.Others.{announce_fine, due_fine, hang_up_fine, pass_fine, request_fine, send_fine}
@@ -32,13 +33,13 @@ starts set ok = ltb-true set.start numbers (and_parts (leb (sync set) (latency s
 
 pub fit_new : (set : Settings) → acceptable set ≡ true → Fit (new set)
 fit_new set ok = record
-    { timer = omega (arith, starts set ok); sessions = λ n s q. absurd (none_some s q); wanted = λ w q. absurd (none_some w q); sent = λ x q. absurd (none_some x q) }
+    { timer = omega (arith, starts set ok); sessions = λ n s q. absurd (none-some s q); wanted = λ w q. absurd (none-some w q); sent = λ x q. absurd (none-some x q) }
 
 module _ (set : Settings) (M : Meaning) (proper : ProperSettings set) where
   -- EVERY CALL
 
   roomy_fine : (g : Model) (c : Call) (b : Buffers) (r : Step) → milliseconds set M c ≡ 0 → Fit g → Fine set M g c r → Fine set M g c (with_room set M g b r)
-  roomy_fine g c b r p f x = cond_case (Fine set M g c) (roomy set M b) r (refuse g no.Buffers) (λ _. x) (λ _. refused set M g c no.Buffers p f)
+  roomy_fine g c b r p f x = cond_both (roomy set M b) r (refuse g no.Buffers) (Fine set M g c) (λ _. x) (λ _. refused set M g c no.Buffers p f)
 
   arrived_fine : (g : Model) (frame offer : List ℕ) (lot : ℕ) (b : Buffers) → Octets frame → Octets offer → Fit g → (o : Result Shape Unreadable) → reading frame ≡ o
       → Fine set M g (arrive frame offer lot b) (arrived set M g offer lot o)
@@ -47,7 +48,7 @@ module _ (set : Settings) (M : Meaning) (proper : ProperSettings set) where
   arrived_fine g frame offer lot b fo oo f (Ok (a_notice time serial tag associated nc mc)) rd =
       notice_fine set M g frame offer lot b fo f time serial tag associated nc mc rd (M.opened set.group nc associated [] mc)
   arrived_fine g frame offer lot b fo oo f (Ok (a_wrapper n count serial tag associated nc ct mc)) rd =
-      cond_case (Fine set M g (arrive frame offer lot b)) (eqb n 0) _ _
+      cond_both (eqb n 0) _ _ (Fine set M g (arrive frame offer lot b))
       (λ z.
       let none = eqb-true n 0 z in
       group_wrapper_fine set M g frame offer lot b fo f count serial tag associated nc ct mc (rd ∙ ap (λ k. Ok (a_wrapper k count serial tag associated nc ct mc)) none))
@@ -94,7 +95,7 @@ module _ (set : Settings) (M : Meaning) (proper : ProperSettings set) where
 
   numbers_rise : (e : Event) (h : List Event) → All e h → law.NumbersRise set M e h
   numbers_rise e h all n count nz p = ⊎_elim
-      (λ q. absurd (none_some count (sym (ap count_of q.no_in) ∙ p)))
+      (λ q. absurd (none-some count (sym (ap count_of q.no_in) ∙ p)))
       (λ v. (v.l, v.is, every_map v.l.since (λ d a j r. v.says.hears count p j (a j r)) v.sound.last))
       (all n nz)
 
@@ -112,7 +113,7 @@ module _ (set : Settings) (M : Meaning) (proper : ProperSettings set) where
 
   no_number_twice : (e : Event) (h : List Event) → All e h → law.NoNumberTwice set M e h
   no_number_twice e h all n count nz p = ⊎_elim
-      (λ q. absurd (none_some count (sym (ap count_of q.no_out) ∙ p)))
+      (λ q. absurd (none-some count (sym (ap count_of q.no_out) ∙ p)))
       (λ v. (v.l, v.is, every_map v.l.since (λ d a r. omega (arith, a count r, v.says.seals count p)) v.sound.own))
       (all n nz)
 

@@ -1,5 +1,6 @@
 -- How one call moves one session, and what the law sees of it. Assumes nothing.
 use Rattle.std.proofs.Common.{◌≡◌, ℕ, ◌<◌, ◌≤◌, Bool, true, false, cond, ◌&&◌, eqb, ◌≢◌, ◌⊎◌, List, Some, None, Ok, Option, sym, refl, ap, ◌∙◌, subst, inl, inr, ⊎_elim, arith}
+use Rattle.std.proofs.lemmas.Option.{none-some}
 use Rattle.std.proofs.lemmas.Bool.{eqb-true, ltb-true}
 use Rattle.std.specs.List.{AllByRecursion}
 use Rattle.rules.specs.declared.answers.Answer.TheVariants.{Delivered}
@@ -10,7 +11,7 @@ use Rattle.rules.specs.Meaning.{Meaning}
 use Rattle.rules.specs.Model.{Model, Session, put}
 use Rattle.rules.specs.Runs.{Event, noted}
 use Rattle.rules.specs.Sessions.{above, begun}
-use Rattle.rules.proofs.Facts.{Reached, every_map, none_some}
+use Rattle.rules.proofs.Facts.{Reached, every_map}
 
 pub above_reached : (o : Option ℕ) (k : ℕ) → above o k ≡ true → (j : ℕ) → Reached o j → j < k
 above_reached None k e j r = absurd r
@@ -62,7 +63,7 @@ module _ (set : Settings) (M : Meaning) where
 
   pub tied_kept : (n : ℕ) (e : Event) (l : Option Life) (o p : Option Session) → Tied n l o → Moves n e o p → Tied n (begins set M (opens n e) (lives_on set M n e l)) p
   tied_kept n e None None _ t (absent q f) = rw f tt
-  tied_kept n e None None _ t (starts key x y q f) = rw f (record { secrets_is = refl; last = tt; own = tt; user = λ u p. absurd (none_some u p) })
+  tied_kept n e None None _ t (starts key x y q f) = rw f (record { secrets_is = refl; last = tt; own = tt; user = λ u p. absurd (none-some u p) })
   tied_kept n e None (Some s) p t mv = absurd t
   tied_kept n e (Some l) None p t mv = absurd t
   tied_kept n e (Some l) (Some s) _ t (goes _ r f g says x) =
@@ -102,16 +103,16 @@ module _ (set : Settings) (M : Meaning) where
       let x = q.no_out in
       goes s s f (rw (i, x) (and_false _))
       (record {
-        hears = λ k p. absurd (none_some k (rw i at p));
-        seals = λ k p. absurd (none_some k (rw x at p));
+        hears = λ k p. absurd (none-some k (rw i at p));
+        seals = λ k p. absurd (none-some k (rw x at p));
         delivers = λ count user size p. absurd (q.no_delivery count user size p);
       })
       (record {
         secrets_kept = refl;
         last_kept = λ j r. r;
-        last_new = λ k p. absurd (none_some k (rw i at p));
+        last_new = λ k p. absurd (none-some k (rw i at p));
         own_kept = omega arith;
-        own_new = λ k p. absurd (none_some k (rw x at p));
+        own_new = λ k p. absurd (none-some k (rw x at p));
         user_new = λ u p. inl p;
       })
     where

@@ -1,6 +1,6 @@
 -- A call, but for pass and due, changes the session that it names and no other. Assumes nothing.
 use Rattle.std.proofs.Common.{◌≡◌, ℕ, false, eqb, ltb, ◌≢◌, List, [], Some, None, Ok, Err, Option, Result, sym, refl, ap}
-use Rattle.std.proofs.lemmas.Bool.{both_ways, ne_eqb}
+use Rattle.std.proofs.lemmas.Bool.{both_ways, cond_both, ne_eqb}
 use Rattle.octets.specs.Runs.{number}
 use Rattle.frames.specs.Reading.{Shape, a_notice, a_request, a_wrapper, reading}
 use Rattle.frames.specs.Telegrams.{is_good, telegram_kind}
@@ -17,7 +17,6 @@ use Rattle.rules.specs.Model.{Model, Session, put}
 use Rattle.rules.specs.Rules.{act, announced, arrived, good_offer, group_wrapper, hung_up, noticed, opened_session, roomy, send_in, send_signed, sign, with_room, wrapper_of}
 use Rattle.rules.specs.Sessions.{above, lapsed, signs_in}
 use Rattle.rules.specs.Theorems.{ChangesOneSession, named_in}
-use Rattle.rules.proofs.Facts.{cond_case}
 
 module _ (set : Settings) (M : Meaning) (g : Model) (n : ℕ) where
   abbrev Same : Step → Type 0
@@ -27,9 +26,9 @@ module _ (set : Settings) (M : Meaning) (g : Model) (n : ℕ) where
   put_same m o ne = let z = ne_eqb n m (λ q. ne (sym q)) in rw z
 
   heard_same : (time serial tag lot : ℕ) → (heard set g time serial tag lot).sessions n ≡ g.sessions n
-  heard_same time serial tag lot = cond_case (λ (h : Model). h.sessions n ≡ g.sessions n) (ltb g.timer time) _ _ (λ _. refl)
-      (λ _. cond_case (λ (h : Model). h.sessions n ≡ g.sessions n) (within g.timer (sync set) time) _ _ (λ _. refl)
-      (λ _. cond_case (λ (h : Model). h.sessions n ≡ g.sessions n) (within g.timer (latency set) time) _ _ (λ _. refl) (λ _. refl)))
+  heard_same time serial tag lot = cond_both (ltb g.timer time) _ _ (λ (h : Model). h.sessions n ≡ g.sessions n) (λ _. refl)
+      (λ _. cond_both (within g.timer (sync set) time) _ _ (λ (h : Model). h.sessions n ≡ g.sessions n) (λ _. refl)
+      (λ _. cond_both (within g.timer (latency set) time) _ _ (λ (h : Model). h.sessions n ≡ g.sessions n) (λ _. refl) (λ _. refl)))
 
   -- a wrapper of another session
   module _ (m count serial : ℕ) (ne : m ≡ n → ⊥) where
@@ -39,12 +38,12 @@ module _ (set : Settings) (M : Meaning) (g : Model) (n : ℕ) where
 
     act_same : (s : Session) (t : List ℕ) (u : Option ℕ) (q : Telegram) → Same (act set M g m s count t u q)
     act_same s t None Authenticate = sign_same s (signs_in set M s t)
-    act_same s t None (Status code) = cond_case Same (eqb code 5) _ _ (λ _. put_same m _ ne) (λ _. put_same m _ ne)
+    act_same s t None (Status code) = cond_both (eqb code 5) _ _ Same (λ _. put_same m _ ne) (λ _. put_same m _ ne)
     act_same s t None (Good family) = put_same m _ ne
     act_same s t None Other = put_same m _ ne
     act_same s t (Some u) Authenticate = put_same m _ ne
-    act_same s t (Some u) (Status code) = cond_case Same (eqb code 5) _ _ (λ _. put_same m _ ne) (λ _. put_same m _ ne)
-    act_same s t (Some u) (Good family) = cond_case Same (may_deliver u family) _ _ (λ _. put_same m _ ne) (λ _. put_same m _ ne)
+    act_same s t (Some u) (Status code) = cond_both (eqb code 5) _ _ Same (λ _. put_same m _ ne) (λ _. put_same m _ ne)
+    act_same s t (Some u) (Good family) = cond_both (may_deliver u family) _ _ Same (λ _. put_same m _ ne) (λ _. put_same m _ ne)
     act_same s t (Some u) Other = put_same m _ ne
 
     opened_same : (s : Session) (o : Option (List ℕ)) → Same (opened_session set M g m s count o)
@@ -53,15 +52,15 @@ module _ (set : Settings) (M : Meaning) (g : Model) (n : ℕ) where
 
     wrapper_same : (opens : Session → Option (List ℕ)) (o : Option Session) → Same (wrapper_of set M g m count serial opens o)
     wrapper_same opens None = refl
-    wrapper_same opens (Some s) = cond_case Same (lapsed s) _ _ (λ _. refl)
-        (λ _. cond_case Same (eqb serial (own_serial set)) _ _ (λ _. refl)
-        (λ _. cond_case Same (above s.last count) _ _ (λ _. opened_same s (opens s)) (λ _. refl)))
+    wrapper_same opens (Some s) = cond_both (lapsed s) _ _ Same (λ _. refl)
+        (λ _. cond_both (eqb serial (own_serial set)) _ _ Same (λ _. refl)
+        (λ _. cond_both (above s.last count) _ _ Same (λ _. opened_same s (opens s)) (λ _. refl)))
 
   group_same : (time serial tag lot : ℕ) (o : Option (List ℕ)) → Same (group_wrapper set M g time serial tag lot o)
-  group_same time serial tag lot None = cond_case Same (eqb serial (own_serial set)) _ _ (λ _. refl) (λ _. refl)
-  group_same time serial tag lot (Some t) = cond_case Same (eqb serial (own_serial set)) _ _ (λ _. refl)
-      (λ _. cond_case Same (is_good t) _ _
-      (λ _. cond_case Same (within g.timer (latency set) time) _ _ (λ _. heard_same time serial tag lot) (λ _. heard_same time serial tag lot))
+  group_same time serial tag lot None = cond_both (eqb serial (own_serial set)) _ _ Same (λ _. refl) (λ _. refl)
+  group_same time serial tag lot (Some t) = cond_both (eqb serial (own_serial set)) _ _ Same (λ _. refl)
+      (λ _. cond_both (is_good t) _ _ Same
+      (λ _. cond_both (within g.timer (latency set) time) _ _ Same (λ _. heard_same time serial tag lot) (λ _. heard_same time serial tag lot))
       (λ _. refl))
 
   noticed_same : (time serial tag lot : ℕ) (o : Option (List ℕ)) → Same (noticed set M g time serial tag lot o)
@@ -70,32 +69,32 @@ module _ (set : Settings) (M : Meaning) (g : Model) (n : ℕ) where
 
   arrived_same : (offer : List ℕ) (lot : ℕ) (o : Result Shape Unreadable) → named_in offer o ≢ Some n → Same (arrived set M g offer lot o)
   arrived_same offer lot (Err why) ne = refl
-  arrived_same offer lot (Ok (a_request x)) ne = cond_case Same (good_offer set M g offer) _ _
-      (λ _. cond_case Same (ltb g.held slots) _ _ (λ _. put_same (number 2 0 offer) _ (λ q. ne (ap Some q))) (λ _. refl))
+  arrived_same offer lot (Ok (a_request x)) ne = cond_both (good_offer set M g offer) _ _ Same
+      (λ _. cond_both (ltb g.held slots) _ _ Same (λ _. put_same (number 2 0 offer) _ (λ q. ne (ap Some q))) (λ _. refl))
       (λ _. refl)
   arrived_same offer lot (Ok (a_notice time serial tag associated nc mc)) ne = noticed_same time serial tag lot (M.opened set.group nc associated [] mc)
-  arrived_same offer lot (Ok (a_wrapper m count serial tag associated nc ct mc)) ne = cond_case Same (eqb m 0) _ _
+  arrived_same offer lot (Ok (a_wrapper m count serial tag associated nc ct mc)) ne = cond_both (eqb m 0) _ _ Same
       (λ _. group_same count serial tag lot (M.opened set.group nc associated ct mc))
       (λ _. wrapper_same m count serial (λ q. ne (ap Some q)) (λ s. M.opened s.key nc associated ct mc) (g.sessions m))
 
   send_same : (m : ℕ) (t : List ℕ) → (m ≡ n → ⊥) → (o : Option Session) → Same (send_in set M g m t o)
   send_same m t ne None = refl
-  send_same m t ne (Some s) = cond_case Same (lapsed s) _ _ (λ _. refl)
-      (λ _. cond_case Same (is_good t) _ _ (λ _. signed_same s.user) (λ _. refl)) where
+  send_same m t ne (Some s) = cond_both (lapsed s) _ _ Same (λ _. refl)
+      (λ _. cond_both (is_good t) _ _ Same (λ _. signed_same s.user) (λ _. refl)) where
         signed_same : (u : Option ℕ) → Same (send_signed set M g m s t u)
         signed_same None = refl
-        signed_same (Some u) = cond_case Same (ltb s.own last_time) _ _ (λ _. put_same m _ ne) (λ _. refl)
+        signed_same (Some u) = cond_both (ltb s.own last_time) _ _ Same (λ _. put_same m _ ne) (λ _. refl)
 
   hung_same : (m : ℕ) → (m ≡ n → ⊥) → (o : Option Session) → Same (hung_up set M g m o)
   hung_same m ne None = refl
-  hung_same m ne (Some s) = cond_case Same (lapsed s) _ _ (λ _. refl) (λ _. put_same m _ ne)
+  hung_same m ne (Some s) = cond_both (lapsed s) _ _ Same (λ _. refl) (λ _. put_same m _ ne)
 
   announced_same : (t : List ℕ) (lot : ℕ) → Same (announced set M g t lot)
-  announced_same t lot = cond_case Same (is_good t) _ _
-      (λ _. cond_case Same (ltb (next_time g.timer g.sent) numbers) _ _ (λ _. refl) (λ _. refl)) (λ _. refl)
+  announced_same t lot = cond_both (is_good t) _ _ Same
+      (λ _. cond_both (ltb (next_time g.timer g.sent) numbers) _ _ Same (λ _. refl) (λ _. refl)) (λ _. refl)
 
   roomy_same : (b : Buffers) (r : Step) → Same r → Same (with_room set M g b r)
-  roomy_same b r x = cond_case Same (roomy set M b) _ _ (λ _. x) (λ _. refl)
+  roomy_same b r x = cond_both (roomy set M b) _ _ Same (λ _. x) (λ _. refl)
 
 pub changes_one_session : ChangesOneSession
 changes_one_session set M g (arrive frame offer lot b) one n ne = roomy_same set M g n b _ (arrived_same set M g n offer lot (reading frame) ne)

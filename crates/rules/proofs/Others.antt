@@ -1,7 +1,8 @@
 -- Session request, pass, due, send, announce and hang up, rule by rule. Assumes nothing.
 use Rattle.std.proofs.Common.{◌≡◌, ℕ, ◌^◌, ◌<◌, ◌≤◌, Bool, true, false, not, ◌&&◌, ◌||◌, eqb, ltb, leb, ◌≢◌, List, length, take, drop, is_some, Some, None, Ok, Option, sym, refl, ap, ◌∙◌, subst, inl, arith}
+use Rattle.std.proofs.lemmas.Option.{none-some}
 use Rattle.std.proofs.lemmas.List.{length-drop, length-take-le}
-use Rattle.std.proofs.lemmas.Bool.{and_parts, both_ways, eq-eqb, eqb-false, eqb-true, leb-true, ltb-true, ne_eqb, not-true}
+use Rattle.std.proofs.lemmas.Bool.{and_parts, both_ways, cond_both, eq-eqb, eqb-false, eqb-true, leb-true, ltb-true, ne_eqb, not-true}
 use Rattle.octets.proofs.Laws.{number_below}
 use Rattle.octets.specs.Laws.{Octets}
 use Rattle.octets.specs.Runs.{number, over}
@@ -27,7 +28,7 @@ use Rattle.rules.specs.Runs.{lent, noted}
 use Rattle.rules.specs.Sessions.{all_waited, begun, lapsed, sent_one, waited}
 use Rattle.rules.proofs.Acts.{out_else, out_kind, out_seals, out_time, serial_below}
 use Rattle.rules.proofs.Counting.{Counted, count_same, counted_put, counted_same}
-use Rattle.rules.proofs.Facts.{Reached, cond_case, no_delivery, none_some, some_some, take_over}
+use Rattle.rules.proofs.Facts.{Reached, no_delivery, some_some, take_over}
 use Rattle.rules.proofs.Frames.{notice_back, response_long, response_unread, status_back, wrapper_back}
 use Rattle.rules.proofs.Moves.{Moves, Says, Still, about, absent, aside, goes, secrets, starts, stops}
 use Rattle.rules.proofs.Steps.{Clocks, Fine, fit_put, idle, opens_none, refused}
@@ -92,11 +93,11 @@ module _ (set : Settings) (M : Meaning) (proper : ProperSettings set) where
         }
 
     pub request_fine : Fine set M g c (requested set M g x offer)
-    request_fine = cond_case (Fine set M g c) (good_offer set M g offer) _ _
+    request_fine = cond_both (good_offer set M g offer) _ _ (Fine set M g c)
         (λ good.
         let p = and_parts (eqb (length offer) 50 && not (eqb m 0)) (not (is_some (g.sessions m))) good in
         let q = and_parts (eqb (length offer) 50) (not (eqb m 0)) p.0 in
-        cond_case (Fine set M g c) (ltb g.held slots) _ _
+        cond_both (ltb g.held slots) _ _ (Fine set M g c)
         (λ lt. open_fine (eqb-true (length offer) 50 q.0) (eqb-false m 0 (not-true (eqb m 0) q.1)) (is_none (g.sessions m) p.1) (ltb-true g.held slots lt))
         (λ _. no_slot_fine))
         (λ _. refused set M g c no.Offer refl f)
@@ -113,11 +114,11 @@ module _ (set : Settings) (M : Meaning) (proper : ProperSettings set) where
     waits : (n : ℕ) (o : Option Session) → Moves set M n (noted g (pass ms) r) o (all_waited ms o)
     waits n None = absent (still n) refl
     waits n (Some s) = goes s (waited ms s) refl refl
-        (record { hears = λ k p. absurd (none_some k p); seals = λ k p. absurd (none_some k p); delivers = λ count user size q. absurd (no_delivery _ refl n count user size q) })
-        (record { secrets_kept = refl; last_kept = λ j h. h; last_new = λ k p. absurd (none_some k p); own_kept = omega arith; own_new = λ k p. absurd (none_some k p); user_new = λ u p. inl p })
+        (record { hears = λ k p. absurd (none-some k p); seals = λ k p. absurd (none-some k p); delivers = λ count user size q. absurd (no_delivery _ refl n count user size q) })
+        (record { secrets_kept = refl; last_kept = λ j h. h; last_new = λ k p. absurd (none-some k p); own_kept = omega arith; own_new = λ k p. absurd (none-some k p); user_new = λ u p. inl p })
 
     waited_fit : (n : ℕ) (o : Option Session) → g.sessions n ≡ o → (s : Session) → all_waited ms o ≡ Some s → GoodSession n s
-    waited_fit n None at s q = absurd (none_some s q)
+    waited_fit n None at s q = absurd (none-some s q)
     waited_fit n (Some t) at s q =
         let good = f.sessions n t at in
         subst (GoodSession n) (some_some (waited ms t) s q) (record { nonzero = good.nonzero; numbered = good.numbered; keyed = good.keyed; countable = good.countable; fresh = good.fresh })
@@ -132,10 +133,10 @@ module _ (set : Settings) (M : Meaning) (proper : ProperSettings set) where
       fit = record { timer = omega arith; sessions = λ n s q. waited_fit n (g.sessions n) refl s q; wanted = f.wanted; sent = f.sent };
       clocks = record {
         ticks = refl;
-        later = λ x q. absurd (none_some x q);
+        later = λ x q. absurd (none-some x q);
         kept = λ j h. h;
-        reached = λ x q. absurd (none_some x q);
-        window = λ w q. absurd (none_some w q);
+        reached = λ x q. absurd (none-some x q);
+        window = λ w q. absurd (none-some w q);
         genuine = λ count user size q. absurd (no_delivery _ refl 0 count user size q);
       };
       counted = λ k. record { is = count_same session_numbers 0 _ _ (λ n l. still_there (g.sessions n)) ∙ k.is; few = k.few };
@@ -162,7 +163,7 @@ module _ (set : Settings) (M : Meaning) (proper : ProperSettings set) where
 
     says : Says set M m (noted g c r) s
     says = record {
-      hears = λ k p. absurd (none_some k (sym (ap count_of (no_arriving m)) ∙ p));
+      hears = λ k p. absurd (none-some k (sym (ap count_of (no_arriving m)) ∙ p));
       seals = out_seals set M proper g c m s x good low high r is_written shown;
       delivers = λ k user size q. absurd (no_delivery m k user size q);
     }
@@ -185,9 +186,9 @@ module _ (set : Settings) (M : Meaning) (proper : ProperSettings set) where
     out_stops : r.to ≡ put g m None → ending (telegram_kind x) ≡ true → Fine set M g c r
     out_stops to e = record {
       moved = about set M g c m None r to others (λ n ne nz. no_opening n) (subst (λ o. Moves set M m (noted g c r) o None) (sym at) (stops s (no_opening m) (ends_is ∙ e) says));
-      fit = subst Fit (sym to) (fit_put g m None f (λ v q. absurd (none_some v q)));
+      fit = subst Fit (sym to) (fit_put g m None f (λ v q. absurd (none-some v q)));
       clocks = clocks_of (ap (λ h. h.timer) to) (ap (λ h. h.sent) to);
-      counted = λ k. subst Counted (sym to) (counted_put g m None good.numbered (λ q. absurd (none_some s (sym q ∙ at))) k);
+      counted = λ k. subst Counted (sym to) (counted_put g m None good.numbered (λ q. absurd (none-some s (sym q ∙ at))) k);
     }
 
     out_goes : r.to ≡ put g m (Some (sent_one s)) → ending (telegram_kind x) ≡ false → s.own < last_time → (user : ℕ) → s.user ≡ Some user → Fine set M g c r
@@ -196,15 +197,15 @@ module _ (set : Settings) (M : Meaning) (proper : ProperSettings set) where
           (subst (λ o. Moves set M m (noted g c r) o (Some (sent_one s))) (sym at) (goes s (sent_one s) (no_opening m) (ends_is ∙ e) says (record {
             secrets_kept = refl;
             last_kept = λ j h. h;
-            last_new = λ k p. absurd (none_some k (sym (ap count_of (no_arriving m)) ∙ p));
+            last_new = λ k p. absurd (none-some k (sym (ap count_of (no_arriving m)) ∙ p));
             own_kept = omega arith;
             own_new = λ k p. omega (arith, out_seals set M proper g c m s x good low high r is_written shown k p);
             user_new = λ u p. inl p;
           })));
       fit = subst Fit (sym to) (fit_put g m (Some (sent_one s)) f (λ v q. subst (GoodSession m) (some_some (sent_one s) v q) (record
-          { nonzero = good.nonzero; numbered = good.numbered; keyed = good.keyed; countable = omega arith; fresh = λ z. absurd (none_some user (sym z ∙ us)) })));
+          { nonzero = good.nonzero; numbered = good.numbered; keyed = good.keyed; countable = omega arith; fresh = λ z. absurd (none-some user (sym z ∙ us)) })));
       clocks = clocks_of (ap (λ h. h.timer) to) (ap (λ h. h.sent) to);
-      counted = λ k. subst Counted (sym to) (counted_put g m (Some (sent_one s)) good.numbered (λ q. absurd (none_some s (sym q ∙ at))) k);
+      counted = λ k. subst Counted (sym to) (counted_put g m (Some (sent_one s)) good.numbered (λ q. absurd (none-some s (sym q ∙ at))) k);
     }
 
   -- HANG UP
@@ -212,7 +213,7 @@ module _ (set : Settings) (M : Meaning) (proper : ProperSettings set) where
   module _ (g : Model) (n : ℕ) (b : Buffers) (f : Fit g) where
     pub hang_up_fine : (o : Option Session) → g.sessions n ≡ o → Fine set M g (hang_up n b) (hung_up set M g n o)
     hang_up_fine None at = refused set M g (hang_up n b) no.Session refl f
-    hang_up_fine (Some s) at = cond_case (Fine set M g (hang_up n b)) (lapsed s) _ _
+    hang_up_fine (Some s) at = cond_both (lapsed s) _ _ (Fine set M g (hang_up n b))
         (λ _. refused set M g (hang_up n b) no.Session refl f)
         (λ _. out_stops g (hang_up n b) n s (status 5) f at (omega arith) (omega arith) refl (end set M g n s 5) refl refl refl (λ k. refl) (λ k j u z q. no_delivery _ refl k j u z q) refl (ap ending (status_back 5)))
 
@@ -230,7 +231,7 @@ module _ (set : Settings) (M : Meaning) (proper : ProperSettings set) where
     signed_fine s None at us good = refused set M g (send n t b) no.SignIn refl f
     signed_fine s (Some user) at us good =
         let l = good_length t good in
-        cond_case (Fine set M g (send n t b)) (ltb s.own last_time) _ _
+        cond_both (ltb s.own last_time) _ _ (Fine set M g (send n t b))
         (λ lt. out_goes g (send n t b) n s t f at l.0 l.1 refl
         (record { to = put g n (Some (sent_one s)); answer = Ok (Sealed (length (own_wrapper set M n s t)) s.own); written = own_wrapper set M n s t })
         refl refl refl (λ k. refl) (λ k j u z q. no_delivery _ refl k j u z q) refl (ap ending (good_is_apart t good)) (ltb-true s.own last_time lt) user us)
@@ -238,9 +239,9 @@ module _ (set : Settings) (M : Meaning) (proper : ProperSettings set) where
 
     pub send_fine : (o : Option Session) → g.sessions n ≡ o → Fine set M g (send n t b) (send_in set M g n t o)
     send_fine None at = refused set M g (send n t b) no.Session refl f
-    send_fine (Some s) at = cond_case (Fine set M g (send n t b)) (lapsed s) _ _
+    send_fine (Some s) at = cond_both (lapsed s) _ _ (Fine set M g (send n t b))
         (λ _. refused set M g (send n t b) no.Session refl f)
-        (λ _. cond_case (Fine set M g (send n t b)) (is_good t) _ _
+        (λ _. cond_both (is_good t) _ _ (Fine set M g (send n t b))
         (λ good. signed_fine s s.user at refl good)
         (λ _. refused set M g (send n t b) no.Telegram refl f))
 
@@ -266,7 +267,7 @@ module _ (set : Settings) (M : Meaning) (proper : ProperSettings set) where
         later = λ x q j h. let same = some_some time x (sym out_is ∙ q) in omega (arith, time_above g.timer g.sent j h);
         kept = λ j h. rw sent_is (omega (arith, time_above g.timer g.sent j h));
         reached = λ x q. let same = some_some time x (sym out_is ∙ q) in rw sent_is (omega arith);
-        window = λ w q. absurd (none_some w (sym (ap (given (of_session 0)) no_in) ∙ q));
+        window = λ w q. absurd (none-some w (sym (ap (given (of_session 0)) no_in) ∙ q));
         genuine = λ k user size q. absurd (no_delivery 0 k user size q);
       };
       counted = counted_same g r.to sessions_are held_is;
@@ -284,7 +285,7 @@ module _ (set : Settings) (M : Meaning) (proper : ProperSettings set) where
     announce_at_fine : is_good t ≡ true → Fine set M g (announce t lot b) (announce_at set M g t lot at_time)
     announce_at_fine good =
         let l = good_length t good in
-        cond_case (Fine set M g (announce t lot b)) (ltb at_time numbers) _ _
+        cond_both (ltb at_time numbers) _ _ (Fine set M g (announce t lot b))
         (λ lt.
         let below = ltb-true at_time numbers lt in
         let r : Step = record { to = sent_at g at_time; answer = Ok (Sealed (length announced_octets) at_time); written = announced_octets } in
@@ -296,7 +297,7 @@ module _ (set : Settings) (M : Meaning) (proper : ProperSettings set) where
         (λ _. refused set M g (announce t lot b) no.TimesSpent refl f)
 
     pub announce_fine : Fine set M g (announce t lot b) (announced set M g t lot)
-    announce_fine = cond_case (Fine set M g (announce t lot b)) (is_good t) _ _ announce_at_fine (λ _. refused set M g (announce t lot b) no.Telegram refl f)
+    announce_fine = cond_both (is_good t) _ _ (Fine set M g (announce t lot b)) announce_at_fine (λ _. refused set M g (announce t lot b) no.Telegram refl f)
 
   -- DUE
 
@@ -324,14 +325,14 @@ module _ (set : Settings) (M : Meaning) (proper : ProperSettings set) where
     notice_octets = sealed_notice M.mac set.group due_time (notice_serial g.wanted (own_serial set)) (notice_tag g.wanted lot)
 
     notice_fine : Fine set M g (due lot b) (due_notice set M g lot)
-    notice_fine = cond_case (Fine set M g (due lot b)) (eqb g.countdown 0 && ltb due_time numbers) _ _
+    notice_fine = cond_both (eqb g.countdown 0 && ltb due_time numbers) _ _ (Fine set M g (due lot b))
         (λ y.
         let below = ltb-true due_time numbers (and_parts (eqb g.countdown 0) (ltb due_time numbers) y).1 in
         group_sent_fine g (due lot b) due_time f refl below refl (notify set M g due_time lot) _
         (ap (λ (w : List ℕ). readable (reading w)) (take_over notice_octets b.out)
         ∙ ap readable (notice_back M set.group due_time (notice_serial g.wanted (own_serial set)) (notice_tag g.wanted lot) proper.group_length below (serial_fits g.wanted f.wanted) (tag_fits g.wanted f.wanted)))
         refl (λ n nz. refl)
-        refl (λ k. refl) (λ k j u z q. no_delivery _ refl k j u z q) refl refl refl refl (λ w q. absurd (none_some w q)))
+        refl (λ k. refl) (λ k j u z q. no_delivery _ refl k j u z q) refl refl refl refl (λ w q. absurd (none-some w q)))
         (λ _. nothing_fine)
 
     lapsed_fine : (n : ℕ) (o : Option Session) → g.sessions n ≡ o → Fine set M g (due lot b) (end_lapsed set M g n o)

@@ -1,6 +1,6 @@
 -- Due, repeated, comes to rest: each call of it ends a lapsed session, or sends the notice that is due, or does nothing. Assumes nothing.
 use Rattle.std.proofs.Common.{◌≡◌, ℕ, suc, ◌+◌, ◌-◌, ◌*◌, ◌%◌, ◌<◌, ◌≤◌, Bool, true, false, cond, ◌&&◌, eqb, ltb, List, [], ◌∷◌, length, is_some, Some, None, Ok, Option, sym, refl, ap, ◌∙◌, subst, zero-le, arith}
-use Rattle.std.proofs.lemmas.Bool.{and_left, both_ways, cond-true, ne_eqb}
+use Rattle.std.proofs.lemmas.Bool.{and_left, both_ways, cond-true, cond_both, ne_eqb}
 use Rattle.rules.specs.declared.answers.Answer.TheVariants.{Nothing}
 use Rattle.rules.specs.declared.settings.Settings.{Settings}
 use Rattle.rules.specs.Calls.{Buffers, Step, due, quietly}
@@ -14,7 +14,6 @@ use Rattle.rules.specs.Runs.{state}
 use Rattle.rules.specs.Sessions.{first, first_lapsed, is_lapsed}
 use Rattle.rules.specs.Theorems.{AllRoomy, NothingDueAfterNine, after}
 use Rattle.rules.proofs.Counting.{bit, changed, count, count_changed, count_le, count_same, first_none, first_some}
-use Rattle.rules.proofs.Facts.{cond_case}
 use Rattle.rules.proofs.Kept.{inv_all}
 
 lapsed_there : (o : Option Session) → is_lapsed o ≡ true → is_some o ≡ true
@@ -78,7 +77,7 @@ module _ (set : Settings) (M : Meaning) where
     not_yet a = ne_eqb (10000 + a) 0 (λ q. omega arith)
 
     notified : lapses n g.sessions ≡ 0 → work_left n (due_notice set M g lot).to ≡ 0
-    notified none = cond_case (λ r. work_left n r.to ≡ 0) (noticing g) (notify set M g (next_time g.timer g.sent) lot) (quietly g Nothing)
+    notified none = cond_both (noticing g) (notify set M g (next_time g.timer g.sent) lot) (quietly g Nothing) (λ r. work_left n r.to ≡ 0)
         (λ _. let z : noticing (notify set M g (next_time g.timer g.sent) lot).to ≡ false = and_left _ _ (not_yet (lot % (3 * sync set + 1))) in rw (none, z))
         (λ no_notice. rw (none, no_notice))
 

@@ -1,6 +1,7 @@
 -- What every step of the rules keeps: sessions move as the law has it, the gateway stays fit, and the timer is accounted for.
 -- Assumes nothing.
 use Rattle.std.proofs.Common.{◌≡◌, ℕ, ◌+◌, ◌<◌, ◌≤◌, min, Bool, true, false, cond, ◌&&◌, ◌||◌, eqb, ◌≢◌, ◌⊎◌, List, length, take, Some, None, Ok, Err, Option, Result, sym, refl, ap, ◌∙◌, subst, arith}
+use Rattle.std.proofs.lemmas.Option.{none-some}
 use Rattle.std.proofs.lemmas.Bool.{both_ways, eq-eqb, eqb-true, ne_eqb}
 use Rattle.octets.specs.Runs.{over}
 use Rattle.frames.specs.Reading.{a_wrapper, reading}
@@ -19,7 +20,7 @@ use Rattle.rules.specs.Model.{Model, Session, put}
 use Rattle.rules.specs.Runs.{Event, lent, noted}
 use Rattle.rules.specs.Sessions.{above, opened_by}
 use Rattle.rules.proofs.Counting.{Counted, counted_put}
-use Rattle.rules.proofs.Facts.{Reached, no_delivery, none_some, ok_ok, some_some, take_over}
+use Rattle.rules.proofs.Facts.{Reached, no_delivery, ok_ok, some_some, take_over}
 use Rattle.rules.proofs.Frames.{wrapper_read}
 use Rattle.rules.proofs.Moves.{Moved, Moves, Says, Still, about, above_reached, aside, goes, secrets, stops}
 
@@ -56,10 +57,10 @@ module _ (set : Settings) (M : Meaning) where
       → ((count user size : ℕ) → r.answer ≡ Ok (Delivered 0 count user size) → ⊥) → Clocks g c r
   idle g c r f p t se i o w d = record {
     ticks = rw (i, o, p, t) (omega (arith, f.timer));
-    later = λ x q. absurd (none_some x (sym o ∙ q));
+    later = λ x q. absurd (none-some x (sym o ∙ q));
     kept = λ j h. rw se h;
-    reached = λ x q. absurd (none_some x (sym o ∙ q));
-    window = λ v q. absurd (none_some v (sym w ∙ q));
+    reached = λ x q. absurd (none-some x (sym o ∙ q));
+    window = λ v q. absurd (none-some v (sym w ∙ q));
     genuine = λ count user size q. absurd (d count user size q);
   }
 
@@ -183,9 +184,9 @@ module _ (set : Settings) (M : Meaning) where
     wrapper_stops to e' = record {
       moved = about set M g (arrive frame offer lot b) m None r to others (λ n ne z. no_opening n)
           (subst (λ o. Moves set M m e o None) (sym at) (stops s (no_opening m) (ends_is ∙ e') says));
-      fit = subst Fit (sym to) (fit_put g m None f (λ x q. absurd (none_some x q)));
+      fit = subst Fit (sym to) (fit_put g m None f (λ x q. absurd (none-some x q)));
       clocks = clocks_of (ap (λ h. h.timer) to) (ap (λ h. h.sent) to);
-      counted = λ k. subst Counted (sym to) (counted_put g m None (f.sessions m s at).numbered (λ q. absurd (none_some s (sym q ∙ at))) k);
+      counted = λ k. subst Counted (sym to) (counted_put g m None (f.sessions m s at).numbered (λ q. absurd (none-some s (sym q ∙ at))) k);
     }
 
     pub wrapper_goes : (own : ℕ) (u : Option ℕ) → r.to ≡ put g m (Some (opened_by s count own u))
@@ -208,5 +209,5 @@ module _ (set : Settings) (M : Meaning) where
           let good = f.sessions m s at in
           subst (GoodSession m) same (record { nonzero = nz; numbered = good.numbered; keyed = good.keyed; countable = small; fresh = none })));
       clocks = clocks_of (ap (λ h. h.timer) to) (ap (λ h. h.sent) to);
-      counted = λ k. subst Counted (sym to) (counted_put g m (Some (opened_by s count own u)) (f.sessions m s at).numbered (λ q. absurd (none_some s (sym q ∙ at))) k);
+      counted = λ k. subst Counted (sym to) (counted_put g m (Some (opened_by s count own u)) (f.sessions m s at).numbered (λ q. absurd (none-some s (sym q ∙ at))) k);
     }

@@ -1,5 +1,5 @@
 -- The lapsed row with the smallest number is the session that the rules pick. Assumes nothing.
-use Rattle.std.proofs.Common.{◌≡◌, ℕ, zero, suc, ◌+◌, ◌<◌, ◌≤◌, Bool, true, false, not, List, [], ◌∷◌, length, Some, None, Option, sym, refl, ap, ◌∙◌, subst, ⊎_elim, add-one, arith, MatchOption}
+use Rattle.std.proofs.Common.{◌≡◌, ℕ, zero, suc, ◌+◌, ◌<◌, ◌≤◌, Bool, true, false, not, List, [], ◌∷◌, length, Some, None, Option, sym, refl, ap, ◌∙◌, subst, ⊎_elim, arith, IfSome, MatchOption}
 use Rattle.std.proofs.lemmas.Bool.{and_parts, both_ways, cases_eq, cond-false, cond-true, ltb-false, ltb-true}
 use Rattle.std.proofs.lemmas.Bool.Decides.{nat_tests}
 use Rattle.rules.specs.Limits.{session_numbers}
@@ -91,7 +91,7 @@ not_true_false : (b : Bool) → (b ≡ true → ⊥) → b ≡ false
 not_true_false true f = absurd (f refl)
 not_true_false false f = refl
 
-from_least : (rows : List Slot) (o : Option ℕ) → Distinct rows → ((k : ℕ) → k < length rows → (row rows k).number < session_numbers) → Least rows (length rows) o → Lapses rows o
+from_least : (rows : List Slot) (o : Option ℕ) → Distinct rows → IfSome o (λ j. (row rows j).number < session_numbers) → Least rows (length rows) o → Lapses rows o
 from_least rows None d small l =
     first_none session_numbers 0 _ (λ k. not_true_false _ (λ y. let s = stands rows k y in both_ways _ (l s.at s.within) s.lapsed_there))
 from_least rows (Some j) d small l =
@@ -99,14 +99,10 @@ from_least rows (Some j) d small l =
     let is = lapsed_is (row rows j) l.1 in
     let finds = look_row rows n j d l.0 is.0 refl in
     record {
-      is = first_some session_numbers 0 n _ (omega arith) (omega (arith, small j l.0)) (ap is_lapsed finds ∙ is.1)
+      is = first_some session_numbers 0 n _ (omega arith) (omega (arith, small)) (ap is_lapsed finds ∙ is.1)
           (λ k lt. not_true_false _ (λ y. let s = stands rows k y in let most = l.2 s.at s.within s.lapsed_there in let which = s.number in absurd (omega arith)));
       found = record { within = l.0; some = is.0; number = refl; session = finds };
     }
 
-pub lapses : (rows : List Slot) (o : Option ℕ) → Distinct rows → ((k : ℕ) → k < length rows → (row rows k).number < session_numbers) → o ≡ least rows (length rows) → Lapses rows o
+pub lapses : (rows : List Slot) (o : Option ℕ) → Distinct rows → IfSome o (λ j. (row rows j).number < session_numbers) → o ≡ least rows (length rows) → Lapses rows o
 lapses rows o d small e = from_least rows o d small (subst (Least rows (length rows)) (sym e) (least_is rows (length rows)))
-
--- one place more
-pub least_next : (rows : List Slot) (i : ℕ) (o r : Option ℕ) → o ≡ least rows i → r ≡ or_at rows o i → r ≡ least rows (i + 1)
-least_next rows i o r e q = q ∙ ap (λ (x : Option ℕ). or_at rows x i) e ∙ ap (least rows) (sym (add-one i))

@@ -1,12 +1,13 @@
 -- One row written, as one session changed. Assumes nothing.
-use Rattle.std.proofs.Common.{◌≡◌, ℕ, zero, suc, ◌+◌, ◌<◌, ◌≤◌, Bool, true, false, cond, not, eqb, List, [], ◌∷◌, map, length, set, is_some, Some, None, Option, sym, refl, ap, ◌∙◌, subst, ⊎_elim, le_of_suc-le-suc, arith, length-set}
+use Rattle.std.proofs.Common.{◌≡◌, ℕ, zero, suc, ◌+◌, ◌<◌, ◌≤◌, Bool, true, false, cond, not, eqb, List, [], ◌∷◌, map, length, set, is_some, Some, None, Option, sym, refl, ap, ◌∙◌, subst, ⊎_elim, MatchOption, le_of_suc-le-suc, arith, length-set}
 use Rattle.std.proofs.lemmas.List.{get_or-set_same, set-set}
 use Rattle.std.proofs.lemmas.Bool.{and_from, and_parts, both_ways, cases_eq, cond-false, eq-eqb, eqb-true, ne_eqb}
 use Rattle.std.proofs.lemmas.Bool.Decides.{nat_tests}
+use Rattle.std.specs.List.{AllWithin, HoldsAt}
 use Rattle.rules.specs.Model.{Session, held_after}
 use Rattle.rules.specs.Sessions.{all_waited}
-use Rattle.slots.specs.Rows.{Distinct, distinct, free_row, has, held_rows, is_free, look_up, row, session_of, waited_row}
-use Rattle.slots.specs.Tables.{Free, Found, Puts, Waits}
+use Rattle.slots.specs.Rows.{Distinct, distinct, free_row, has, held_rows, is_free, look_up, no_row, row, session_of, waited_row}
+use Rattle.slots.specs.Tables.{Finds, Frees, Puts, Waits}
 use Rattle.slots.specs.declared.slot.Slot.{Slot}
 
 -- FINDING
@@ -34,8 +35,17 @@ look_zero : (rs : List Slot) → look_up rs 0 ≡ None
 look_zero [] = refl
 look_zero (r ∷ rs) = look_zero rs
 
-pub found : (rs : List Slot) (n i : ℕ) → i < length rs → has n (row rs i) ≡ true → ((j : ℕ) → j < i → has n (row rs j) ≡ false) → Found rs n i
-found rs n i lt h b = record { within = lt; some = (has_is n (row rs i) h).0; number = (has_is n (row rs i) h).1; session = look_found rs n i lt h b }
+-- what the first row that passes a test says, or none
+abbrev pub First : (Slot → Bool) → List Slot → Option ℕ → Type 0
+First test rs o =
+    MatchOption o (AllWithin (λ r. test r ≡ false) rs 0 (length rs))
+    (λ i. (i < length rs) × HoldsAt (λ r. test r ≡ true) rs i × AllWithin (λ r. test r ≡ false) rs 0 i)
+
+pub finds : (rs : List Slot) (n : ℕ) (o : Option ℕ) → First (has n) rs o → Finds rs n o
+finds rs n None f = look_none rs n (λ j lt. f j no_row (omega arith) lt)
+finds rs n (Some i) f =
+    let h = f.1 no_row in
+    record { within = f.0; some = (has_is n (row rs i) h).0; number = (has_is n (row rs i) h).1; session = look_found rs n i f.0 h (λ j lt. f.2 j no_row (omega arith) lt) }
 
 -- HOW MANY ARE HELD
 
@@ -63,8 +73,9 @@ held_set [] i r lt = absurd (omega arith)
 held_set (x ∷ rs) zero r lt = omega (arith, held_cons x rs, held_cons r rs)
 held_set (x ∷ rs) (suc i) r lt = omega (arith, held_cons x rs, held_cons x (set rs i r), held_set rs i r (le_of_suc-le-suc lt))
 
-pub free_at : (rs : List Slot) (i : ℕ) → i < length rs → is_free (row rs i) ≡ true → Free rs (length rs) i
-free_at rs i lt f = record { within = lt; free = eqb-true _ _ f; room = held_not_all rs i lt f }
+pub frees : (rs : List Slot) (o : Option ℕ) → First is_free rs o → Frees rs (length rs) o
+frees rs None f = held_all rs (λ j lt. f j no_row (omega arith) lt)
+frees rs (Some i) f = let h = f.1 no_row in record { within = f.0; free = eqb-true _ _ h; room = held_not_all rs i f.0 h }
 
 -- ROWS APART
 

@@ -2,3 +2,4 @@ pub mod Rows
 pub mod Tables
 pub mod Lapses
 pub mod Laws
+pub mod Places

@@ -49,8 +49,11 @@ abbrev pub free_row : Slot
 free_row = record { number = 0; key = replicate 16 0; x = replicate 32 0; y = replicate 32 0; last = None; own = 0; state = Unsigned; idle = 0 }
 
 -- the row at a place
+abbrev pub no_row : Slot
+no_row = record { number = 0; key = []; x = []; y = []; last = None; own = 0; state = Unsigned; idle = 0 }
+
 abbrev pub row : List Slot → ℕ → Slot
-row rows i = slice_index_or rows i (record { number = 0; key = []; x = []; y = []; last = None; own = 0; state = Unsigned; idle = 0 })
+row rows i = slice_index_or rows i no_row
 
 -- a row after milliseconds of waiting
 abbrev pub waited_row : ℕ → Slot → Slot

@@ -1,6 +1,7 @@
 // The session table: eight rows, each free or with one session.
 #![tactic(auto)]
 
+pub mod place;
 pub mod slot;
 pub mod table;
 

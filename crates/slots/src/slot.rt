@@ -20,7 +20,7 @@ pub enum State {
 
 #[derive(Clone, Copy)]
 pub struct Slot {
-    // 0: the row is free
+    // 0: the row is free. Not an Option: the table is a fixed form, and a freed row is written over whole, which an Option's None would not promise.
     pub number: u16,
     pub key: Block,
     // the values that were exchanged
@@ -57,10 +57,7 @@ impl Slot {
             key,
             x,
             y,
-            last: None,
-            own: 0,
-            state: State::Unsigned,
-            idle: 0,
+            ..Slot::FREE
         }
     }
 
@@ -110,14 +107,17 @@ impl Slot {
         ensures session { session_of result ≡ opened_by (session_of self) number own (user_of state) }
         ensures number { result.number ≡ self.number }
     {
-        let mut slot = self;
-        slot.last = Some(number);
-        slot.own = own;
-        slot.state = state;
-        if let State::SignedIn(_) = state {
-            slot.idle = 0;
+        let idle = match state {
+            State::Unsigned => self.idle,
+            State::SignedIn(_) => 0,
+        };
+        Slot {
+            last: Some(number),
+            own,
+            state,
+            idle,
+            ..self
         }
-        slot
     }
 
     // The row after an own wrapper.
@@ -126,16 +126,18 @@ impl Slot {
         ensures session { session_of result ≡ sent_one (session_of self) }
         ensures number { result.number ≡ self.number }
     {
-        let mut slot = self;
-        slot.own += 1;
-        slot
+        Slot {
+            own: self.own + 1,
+            ..self
+        }
     }
 
     pub fn waited(self, ms: u32) -> Slot
         ensures { result ≡ waited_row ms self }
     {
-        let mut slot = self;
-        slot.idle = self.idle.saturating_add(ms).min(IDLE_TIME);
-        slot
+        Slot {
+            idle: self.idle.saturating_add(ms).min(IDLE_TIME),
+            ..self
+        }
     }
 }

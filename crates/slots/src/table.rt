@@ -3,8 +3,10 @@ ghost use Rattle.std.specs.Prelude.{◌≡◌, ℕ, ◌<◌, map, length, IfSome
 ghost use Rattle.rules.specs.Limits.{session_numbers, slots};
 ghost use Rattle.slots.specs.Lapses.{Lapses, least, or_at, precedes};
 ghost use Rattle.slots.specs.Rows.{Distinct, free_row, look_up, row, session_of, waited_row};
+ghost use Rattle.slots.specs.Places.{index_of};
 ghost use Rattle.slots.specs.Tables.{Empty, Finds, Frees, Puts, Waits};
 
+use crate::place::Place;
 use crate::slot::Slot;
 
 pub const SLOTS: usize = 8;
@@ -18,39 +20,14 @@ pub struct Table {
 fn place_of(rows: &[Slot], number: u16) -> Option<usize>
     ensures { Finds rows.now number result }
 {
-    for (i, slot) in rows.iter().enumerate() {
-        if slot.has(number) {
-            return Some(i);
-        }
-    }
-    None
+    rows.iter().position(|slot| slot.has(number))
 }
 
 // A place that is free.
 fn free_place(rows: &[Slot]) -> Option<usize>
     ensures { Frees rows.now (length rows.now) result }
 {
-    for (i, slot) in rows.iter().enumerate() {
-        if slot.is_free() {
-            return Some(i);
-        }
-    }
-    None
-}
-
-fn write(rows: &mut [Slot], at: usize, slot: Slot)
-    requires { at < length rows.old }
-    ensures { rows.new ≡ slice_set rows.old at slot }
-{
-    rows[at] = slot;
-}
-
-// Leaves nothing of the row, its key neither.
-fn clear(rows: &mut [Slot], at: usize)
-    requires { at < length rows.old }
-    ensures { rows.new ≡ slice_set rows.old at free_row }
-{
-    rows[at] = Slot::FREE;
+    rows.iter().position(|slot| slot.is_free())
 }
 
 // Every session waits.
@@ -74,27 +51,17 @@ fn precedes(rows: &[Slot], number: u16, so_far: Option<usize>) -> bool
     }
 }
 
-// The place of the lapsed session with the smaller number: the one so far, or the one at `at`.
-fn sooner(rows: &[Slot], so_far: Option<usize>, at: usize) -> Option<usize>
-    requires { (at < length rows.now) × (MatchOption so_far (Unit {0}) (λ j. j < length rows.now)) }
-    ensures place { result ≡ or_at rows.now so_far at }
-    ensures within { IfSome result (λ j. j < length rows.now) }
-    ensures small { (row rows.now at).number < session_numbers }
-{
-    let smaller = precedes(rows, rows[at].number, so_far);
-    let lapsed = rows[at].has_lapsed();
-    if lapsed && smaller { Some(at) } else { so_far }
-}
-
 // The place of the lapsed session with the smallest number.
 fn least_lapsed(rows: &[Slot]) -> Option<usize>
     ensures place { result ≡ least rows.now (length rows.now) }
     ensures within { IfSome result (λ j. j < length rows.now) }
-    ensures small { (k : ℕ) → k < length rows.now → (row rows.now k).number < session_numbers }
+    ensures small { IfSome result (λ j. (row rows.now j).number < session_numbers) }
 {
     let mut first = None;
-    for i in 0..rows.len() {
-        first = sooner(rows, first, i);
+    for (at, slot) in rows.iter().enumerate() {
+        if slot.has_lapsed() && precedes(rows, slot.number, first) {
+            first = Some(at);
+        }
     }
     first
 }
@@ -109,67 +76,78 @@ impl Table {
     }
 
     // The row at a place.
-    pub fn slot(&self, at: usize) -> Slot
-        requires { at < slots }
-        ensures { result ≡ row self.now.rows at }
+    pub fn slot(&self, at: Place) -> Slot
+        ensures { result ≡ row self.now.rows at.index }
     {
-        self.rows[at]
+        self.rows[at.index]
     }
 
     // The place of a session.
-    pub fn find(&self, number: u16) -> Option<usize>
-        ensures found { Finds self.now.rows number result }
-        ensures within { IfSome result (λ i. i < slots) }
+    pub fn find(&self, number: u16) -> Option<Place>
+        ensures { Finds self.now.rows number (index_of result) }
     {
-        place_of(&self.rows, number)
+        let index = place_of(&self.rows, number)?;
+        Some(Place { index })
     }
 
     // A place that is free.
-    pub fn free(&self) -> Option<usize>
-        ensures { Frees self.now.rows slots result }
+    pub fn free(&self) -> Option<Place>
+        ensures { Frees self.now.rows slots (index_of result) }
     {
-        free_place(&self.rows)
+        let index = free_place(&self.rows)?;
+        Some(Place { index })
+    }
+
+    fn write(&mut self, at: Place, slot: Slot)
+        ensures { self.new.rows ≡ slice_set self.old.rows at.index slot }
+    {
+        self.rows[at.index] = slot;
     }
 
     // Begins a session in a free row.
-    pub fn open(&mut self, at: usize, slot: Slot)
-        requires within { at < slots }
-        requires free { (row self.old.rows at).number ≡ 0 }
+    pub fn open(&mut self, at: Place, slot: Slot)
+        requires free { (row self.old.rows at.index).number ≡ 0 }
         requires some { 0 < slot.number }
         requires unknown { look_up self.old.rows slot.number ≡ None }
         requires apart { Distinct self.old.rows }
         ensures { Puts self.old.rows self.new.rows slot.number (Some (session_of slot)) }
     {
-        write(&mut self.rows, at, slot);
+        self.write(at, slot);
     }
 
-    // Changes a session in place; its number stays.
-    pub fn set(&mut self, at: usize, slot: Slot)
-        requires within { at < slots }
-        requires same { (row self.old.rows at).number ≡ slot.number }
+    // Changes a session in place; its number stays. `open` does the same and asks other things: one function for both would ask either.
+    pub fn set(&mut self, at: Place, slot: Slot)
+        requires same { (row self.old.rows at.index).number ≡ slot.number }
         requires some { 0 < slot.number }
         requires apart { Distinct self.old.rows }
         ensures { Puts self.old.rows self.new.rows slot.number (Some (session_of slot)) }
     {
-        write(&mut self.rows, at, slot);
+        self.write(at, slot);
+    }
+
+    // Leaves nothing of the row, its key neither.
+    fn clear(&mut self, at: Place)
+        ensures { self.new.rows ≡ slice_set self.old.rows at.index free_row }
+    {
+        self.write(at, Slot::FREE);
     }
 
     // Ends the session of a row.
-    pub fn end(&mut self, at: usize)
-        requires within { at < slots }
+    pub fn end(&mut self, at: Place)
         requires apart { Distinct self.old.rows }
-        ensures { Puts self.old.rows self.new.rows (row self.old.rows at).number None }
+        ensures ended { Puts self.old.rows self.new.rows (row self.old.rows at.index).number None }
+        ensures cleared { self.new.rows ≡ slice_set self.old.rows at.index free_row }
     {
-        clear(&mut self.rows, at);
+        self.clear(at);
     }
 
     // The place of the lapsed session with the smallest number.
-    pub fn first_lapsed(&self) -> Option<usize>
+    pub fn first_lapsed(&self) -> Option<Place>
         requires { Distinct self.now.rows }
-        ensures lapsed { Lapses self.now.rows result }
-        ensures within { IfSome result (λ i. i < slots) }
+        ensures { Lapses self.now.rows (index_of result) }
     {
-        least_lapsed(&self.rows)
+        let index = least_lapsed(&self.rows)?;
+        Some(Place { index })
     }
 
     // Every session waits so many milliseconds.

@@ -1,30 +1,28 @@
 -- Facts about a gateway's fields. Assumes nothing.
-use Rattle.std.proofs.Common.{◌≡◌, ℕ, ◌<◌, ◌≤◌, IfSome, true, false, List, Some, None, Err, Option, Result, sym, refl, ap, ◌∙◌, subst, arith}
-use Rattle.std.proofs.lemmas.Bool.{cond-true, cond-false}
+use Rattle.std.proofs.Common.{◌≡◌, ℕ, ◌≤◌, List, Some, None, Option, Result, sym, refl, ap, ◌∙◌, subst, arith}
 use Rattle.octets.specs.Runs.{over}
 use Rattle.clock.specs.Times.{Small}
-use Rattle.frames.specs.Reading.{reading}
-use Rattle.frames.specs.declared.reading.Unreadable.{Unreadable}
-use Rattle.rules.specs.Calls.{Step, due, refuse}
-use Rattle.rules.specs.Limits.{last_time, slots}
+use Rattle.rules.specs.Calls.{Step, due}
+use Rattle.rules.specs.Limits.{last_time}
 use Rattle.rules.specs.Meaning.{Meaning}
-use Rattle.rules.specs.Rules.{arrived, unread}
+use Rattle.rules.specs.Rules.{with_room}
 use Rattle.rules.specs.declared.answers.Answer.{Answer}
 use Rattle.rules.specs.declared.answers.Refusal.{Refusal}
-use Rattle.rules.specs.declared.answers.Refusal.TheVariants.{Buffers}
 use Rattle.slots.proofs.Ruled.{lapsed_is_the_rule}
 use Rattle.slots.specs.Lapses as rows
+use Rattle.slots.specs.Places.{index_of}
+use Rattle.slots.specs.declared.place.Place.{Place}
 use Rattle.steps.specs.Cores.{Becomes, Does, model}
 use Rattle.steps.specs.Living.{Lapses}
-use Rattle.steps.specs.Buffers.{has_room, lending}
-use Rattle.steps.specs.Steps.{arriving, carrying, falling_due, next_lapsed}
+use Rattle.steps.specs.Buffers.{lending}
+use Rattle.steps.specs.Steps.{carrying, falling_due, next_lapsed}
 use Rattle.steps.specs.declared.state.Core.{Core}
 
 -- which session lapsed, by its place
-pub first_lapsed_at : (c : Core) (o : Option ℕ) → rows.Lapses c.table.rows o → IfSome o (λ i. i < slots) → Lapses c o
+pub first_lapsed_at : (c : Core) (o : Option Place) → rows.Lapses c.table.rows (index_of o) → Lapses c o
 unfolding next_lapsed
-first_lapsed_at c None l w = sym (lapsed_is_the_rule (model c) c.table.rows) ∙ l
-first_lapsed_at c (Some i) l w = record { within = w; is = sym (lapsed_is_the_rule (model c) c.table.rows) ∙ l.is; session = l.found.session }
+first_lapsed_at c None l = sym (lapsed_is_the_rule (model c) c.table.rows) ∙ l
+first_lapsed_at c (Some at) l = record { is = sym (lapsed_is_the_rule (model c) c.table.rows) ∙ l.is; session = l.found.session }
 
 pub small_sent : (o : Option ℕ) → ((x : ℕ) → o ≡ Some x → x ≤ last_time) → Small o
 small_sent None f = tt
@@ -38,16 +36,7 @@ does_same s t before after answer out out' e d =
     { answers = d.answers ∙ ap (λ (r : Step). r.answer) e; goes = subst (λ (r : Step). Becomes r.to before after) e d.goes; writes = d.writes ∙ ap (λ (r : Step). over r.written out) e }
 
 module _ (M : Meaning) (c : Core) where
-  -- a frame that cannot be read is refused
-  pub unread_is : (frame offer : List ℕ) (lot : ℕ) (why : Unreadable) (refusal : Refusal)
-      → refusal ≡ unread c.settings M why → Err why ≡ reading frame → refuse (model c) refusal ≡ arriving M frame offer lot c
-  unread_is frame offer lot why refusal e rd = ap (refuse (model c)) e ∙ ap (arrived c.settings M (model c) offer lot) rd
-
-  -- due, where there is room and where there is none
-  pub due_with_room : (lot : ℕ) (out work : List ℕ) → has_room out work ≡ true → falling_due M lot c ≡ carrying M (due lot (lending out work)) c
+  -- due asks for room, and looks for a lapsed session under its shut name
+  pub due_is : (lot : ℕ) (out work : List ℕ) → carrying M (due lot (lending out work)) c ≡ with_room c.settings M (model c) (lending out work) (falling_due M lot c)
   unfolding next_lapsed
-  due_with_room lot out work h = sym (cond-true (has_room out work) (falling_due M lot c) (refuse (model c) Buffers) h)
-
-  pub due_without_room : (lot : ℕ) (out work : List ℕ) → has_room out work ≡ false → refuse (model c) Buffers ≡ carrying M (due lot (lending out work)) c
-  unfolding next_lapsed
-  due_without_room lot out work h = sym (cond-false (has_room out work) (falling_due M lot c) (refuse (model c) Buffers) h)
+  due_is lot out work = refl

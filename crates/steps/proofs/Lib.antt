@@ -1,3 +1,4 @@
 mod Lengths
 mod Standing
 mod Fields
+mod Fronts

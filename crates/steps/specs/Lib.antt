@@ -5,3 +5,4 @@ pub mod Opened
 pub mod Timed
 pub mod Offers
 pub mod Buffers
+pub mod Statuses

@@ -1,12 +1,10 @@
 -- Sessions that have not lapsed, and the one that lapsed with the smallest number. Assumes nothing.
-use Rattle.std.specs.Prelude.{◌≡◌, ℕ, ◌<◌, Bool, true, false, List, Some, None, Ok, Err, Option, Result, MatchOption}
-use Rattle.rules.specs.Limits.{slots}
+use Rattle.std.specs.Prelude.{◌≡◌, ℕ, ◌<◌, Bool, true, false, Some, None, Ok, Err, Option, Result, MatchOption}
 use Rattle.rules.specs.Model.{Session}
 use Rattle.rules.specs.Sessions.{lapsed}
 use Rattle.rules.specs.declared.answers.Refusal.{Refusal}
 use Rattle.rules.specs.declared.answers.Refusal.TheVariants as no
-use Rattle.slots.specs.Rows.{look_up, row, session_of}
-use Rattle.slots.specs.declared.slot.Slot.{Slot}
+use Rattle.slots.specs.declared.place.Place.{Place}
 use Rattle.steps.specs.Cores.{model}
 use Rattle.steps.specs.Steps.{found, next_lapsed, number_at, session_at}
 use Rattle.steps.specs.declared.state.Core.{Core}
@@ -16,24 +14,26 @@ abbrev pub gone : Option Session → Bool
 gone None = true
 gone (Some s) = lapsed s
 
--- session n stands at place i, and has not lapsed
-pub record Living (rows : List Slot) (n i : ℕ) : Type 0 where
-  pub within : i < slots
-  pub some : 0 < n
-  pub number : (row rows i).number ≡ n
-  pub session : look_up rows n ≡ Some (session_of (row rows i))
-  pub stands : look_up rows (row rows i).number ≡ Some (session_of (row rows i))
-  pub lives : lapsed (session_of (row rows i)) ≡ false
+-- a session stands at a place: the row is not free, and its number finds it
+pub record Standing (c : Core) (at : Place) : Type 0 where
+  pub some : 0 < number_at c at
+  pub session : found c (number_at c at) ≡ Some (session_at c at)
 
-abbrev pub Lives : List Slot → ℕ → Result ℕ Refusal → Type 0
-Lives rows n (Ok i) = Living rows n i
-Lives rows n (Err why) = (why ≡ no.Session) × (gone (look_up rows n) ≡ true)
+-- session n stands at a place, and has not lapsed
+pub record Living (c : Core) (n : ℕ) (at : Place) : Type 0 where
+  pub number : number_at c at ≡ n
+  pub session : found c n ≡ Some (session_at c at)
+  pub stands : Standing c at
+  pub lives : lapsed (session_at c at) ≡ false
 
--- the lapsed session with the smallest number stands at place i
-pub record Lapsed (c : Core) (i : ℕ) : Type 0 where
-  pub within : i < slots
-  pub is : next_lapsed (model c) ≡ Some (number_at c i)
-  pub session : found c (number_at c i) ≡ Some (session_at c i)
+abbrev pub Lives : Core → ℕ → Result Place Refusal → Type 0
+Lives c n (Ok at) = Living c n at
+Lives c n (Err why) = (why ≡ no.Session) × (gone (found c n) ≡ true)
 
-abbrev pub Lapses : Core → Option ℕ → Type 0
+-- the lapsed session with the smallest number stands at a place
+pub record Lapsed (c : Core) (at : Place) : Type 0 where
+  pub is : next_lapsed (model c) ≡ Some (number_at c at)
+  pub session : found c (number_at c at) ≡ Some (session_at c at)
+
+abbrev pub Lapses : Core → Option Place → Type 0
 Lapses c o = MatchOption o (next_lapsed (model c) ≡ None) (Lapsed c)

@@ -1,17 +1,18 @@
 // What a telegram does that opened in a session.
 ghost use Rattle.rules.specs.Meaning.{meaning};
-ghost use Rattle.std.specs.Prelude.{◌≡◌, ◌+◌, ◌<◌, ◌≤◌, length, Some};
-ghost use Rattle.frames.specs.Limits.{largest_frame};
-ghost use Rattle.rules.specs.Fit.{Fit};
-ghost use Rattle.rules.specs.Limits.{may_deliver, slots};
+ghost use Rattle.std.specs.Prelude.{◌≡◌, ◌≤◌, length};
+ghost use Rattle.rules.specs.Limits.{may_deliver};
 ghost use Rattle.rules.specs.Sessions.{signs_in};
 ghost use Rattle.sealer.specs.Limits.{largest_telegram};
-ghost use Rattle.slots.specs.Rows.{Distinct, session_of};
-ghost use Rattle.steps.specs.Cores.{Becomes, Does, model};
-ghost use Rattle.steps.specs.Steps.{acting, ended, found, gone_on, number_at, session_at, signing_in};
+ghost use Rattle.slots.specs.Rows.{session_of};
+ghost use Rattle.steps.specs.Cores.{Becomes, Does, Ready};
+ghost use Rattle.steps.specs.Living.{Standing};
+ghost use Rattle.steps.specs.Steps.{acting, admitted, ended, gone_on, signing_in};
 
-use crate::sessions::{CLOSE, tell};
+use crate::sessions::tell;
 use crate::state::Core;
+use crate::statuses::{CLOSE, Status};
+use frames::LARGEST_FRAME;
 use frames::sealing::mac_of_authenticate;
 use frames::telegrams::{Telegram, authenticate, classify};
 use octets::runs::put;
@@ -19,16 +20,10 @@ use rules::answers::{Answer, Refusal};
 use rules::settings::Settings;
 use sealer::Sealer;
 use sealer::mac::same_mac;
+use slots::place::Place;
 use slots::slot::{Slot, State};
 
-// The statuses that answer a sign-in, and a telegram before it.
-const SIGNED_IN: u8 = 0;
-
-const TURNED_AWAY: u8 = 1;
-
-const NOT_SIGNED_IN: u8 = 2;
-
-// Telegrams of this family manage the installation.
+// Telegrams of this family manage the installation. A number and no enum: families are an open set.
 const MANAGEMENT: u8 = 0x03;
 
 // User 1 manages.
@@ -45,19 +40,14 @@ fn signs_in<S: Sealer>(settings: &Settings, slot: &Slot, telegram: &[u8]) -> Opt
     let given = authenticate(telegram)?;
     let hash = settings.hash_of(given.user)?;
     let made = mac_of_authenticate::<S>(&hash, given.user, &slot.x, &slot.y);
-    if same_mac(given.mac, &made) {
-        Some(given.user)
-    } else {
-        None
-    }
+    same_mac(given.mac, &made).then_some(given.user)
 }
 
 impl Core {
     // The session goes on: a wrapper with this number opened.
-    fn go_on(&mut self, at: usize, number: u64)
-        requires within { at < slots }
-        requires some { 0 < number_at self.old at }
-        requires apart { Distinct self.old.table.rows }
+    fn go_on(&mut self, at: Place, number: u64)
+        requires ready { Ready self.old }
+        requires stands { Standing self.old at }
         ensures { Becomes (gone_on at number self.old) self.old self.new }
     {
         let slot = self.table.slot(at);
@@ -65,65 +55,57 @@ impl Core {
             .set(at, slot.opened_by(number, slot.own, slot.state));
     }
 
-    fn close(&mut self, at: usize)
-        requires within { at < slots }
-        requires apart { Distinct self.old.table.rows }
+    fn close(&mut self, at: Place)
+        requires ready { Ready self.old }
         ensures { Becomes (ended at self.old) self.old self.new }
     {
         self.table.end(at);
     }
 
-    // The own number after the next.
-    fn number_after(&self, at: usize) -> u64
-        requires within { at < slots }
-        requires stands { found self.now (number_at self.now at) ≡ Some (session_at self.now at) }
-        requires fit { Fit (model self.now) }
-        ensures { result ≡ (session_at self.now at).own + 1 }
+    // A user is signed in, and the status that says so has the session's own number.
+    fn admit(&mut self, at: Place, number: u64, user: u8)
+        requires ready { Ready self.old }
+        requires stands { Standing self.old at }
+        ensures { Becomes (admitted at number user self.old) self.old self.new }
     {
-        self.table.slot(at).own + 1
+        let slot = self.table.slot(at);
+        self.table.set(
+            at,
+            slot.opened_by(number, slot.own + 1, State::SignedIn(user)),
+        );
     }
 
     // A user signs in, or is turned away.
     fn sign_in<S: Sealer>(
         &mut self,
-        at: usize,
+        at: Place,
         number: u64,
         telegram: &[u8],
-        out: &mut [u8],
+        out: &mut [u8; LARGEST_FRAME],
     ) -> Result<Answer, Refusal>
-        requires within { at < slots }
-        requires some { 0 < number_at self.old at }
-        requires stands { found self.old (number_at self.old at) ≡ Some (session_at self.old at) }
-        requires fit { Fit (model self.old) }
-        requires apart { Distinct self.old.table.rows }
-        requires room { largest_frame ≤ length out.old }
+        requires ready { Ready self.old }
+        requires stands { Standing self.old at }
         ensures { Does (signing_in (meaning S.Sealer) at number telegram.now) self.old self.new result out.old out.new }
     {
         let slot = self.table.slot(at);
         let Some(user) = signs_in::<S>(&self.settings, &slot, telegram) else {
-            return self.end::<S>(at, TURNED_AWAY, out);
+            return self.end::<S>(at, Status::TurnedAway, out);
         };
-        let own = self.number_after(at);
-        let answer = tell::<S>(&self.settings, &slot, SIGNED_IN, out);
-        self.table
-            .set(at, slot.opened_by(number, own, State::SignedIn(user)));
+        let answer = tell::<S>(&self.settings, &slot, Status::SignedIn, out);
+        self.admit(at, number, user);
         answer
     }
 
     // By who is signed in and what the telegram is.
     pub(crate) fn act<S: Sealer>(
         &mut self,
-        at: usize,
+        at: Place,
         number: u64,
         telegram: &[u8],
-        out: &mut [u8],
+        out: &mut [u8; LARGEST_FRAME],
     ) -> Result<Answer, Refusal>
-        requires within { at < slots }
-        requires some { 0 < number_at self.old at }
-        requires stands { found self.old (number_at self.old at) ≡ Some (session_at self.old at) }
-        requires fit { Fit (model self.old) }
-        requires apart { Distinct self.old.table.rows }
-        requires room { largest_frame ≤ length out.old }
+        requires ready { Ready self.old }
+        requires stands { Standing self.old at }
         requires small { length telegram.now ≤ largest_telegram }
         ensures { Does (acting (meaning S.Sealer) at number telegram.now) self.old self.new result out.old out.new }
     {
@@ -137,7 +119,7 @@ impl Core {
                 Ok(Answer::Taken)
             }
             (State::Unsigned, Telegram::Good(_) | Telegram::Other) => {
-                self.end::<S>(at, NOT_SIGNED_IN, out)
+                self.end::<S>(at, Status::NotSignedIn, out)
             }
             (State::SignedIn(user), Telegram::Good(family)) if may_deliver(user, family) => {
                 self.go_on(at, number);

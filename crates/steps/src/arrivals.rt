@@ -1,31 +1,14 @@
 // A frame that arrives, by what it is.
-ghost use Rattle.rules.specs.Meaning.{Meaning, meaning};
-ghost use Rattle.rules.specs.declared.settings.Settings.{Settings};
-ghost use Rattle.std.specs.Prelude.{◌≡◌, ◌≤◌, true, length};
-ghost use Rattle.frames.specs.Limits.{largest_frame};
-ghost use Rattle.rules.specs.Fit.{Fit};
-ghost use Rattle.rules.specs.Making.{acceptable};
-ghost use Rattle.rules.specs.Rules.{unread};
-ghost use Rattle.slots.specs.Rows.{Distinct};
-ghost use Rattle.steps.specs.Cores.{Does, model};
+ghost use Rattle.rules.specs.Meaning.{meaning};
+ghost use Rattle.steps.specs.Cores.{Does, Ready};
 ghost use Rattle.steps.specs.Steps.{arriving};
 
-use crate::received::{Notice, Wrapper};
 use crate::state::Core;
-use frames::reading::{Frame, Unreadable, read};
+use frames::LARGEST_FRAME;
+use frames::reading::{Frame, read};
 use rules::answers::{Answer, Refusal};
 use rules::limits::GROUP;
 use sealer::Sealer;
-
-fn refusal_of(why: Unreadable) -> Refusal
-    ensures { (set : Settings) (M : Meaning) → result ≡ unread set M why }
-{
-    match why {
-        Unreadable::Header => Refusal::Header,
-        Unreadable::Kind => Refusal::Kind,
-        Unreadable::Length => Refusal::Length,
-    }
-}
 
 impl Core {
     pub(crate) fn arrived<S: Sealer>(
@@ -33,66 +16,19 @@ impl Core {
         frame: &[u8],
         offer: &[u8],
         lot: u32,
-        out: &mut [u8],
-        work: &mut [u8],
+        out: &mut [u8; LARGEST_FRAME],
+        work: &mut [u8; LARGEST_FRAME],
     ) -> Result<Answer, Refusal>
-        requires accepted { acceptable self.old.settings ≡ true }
-        requires apart { Distinct self.old.table.rows }
-        requires fit { Fit (model self.old) }
-        requires room { largest_frame ≤ length out.old }
-        requires area { largest_frame ≤ length work.old }
+        requires ready { Ready self.old }
         ensures { Does (arriving (meaning S.Sealer) frame.now offer.now lot) self.old self.new result out.old out.new }
     {
-        let frame = match read(frame) {
-            Ok(frame) => frame,
-            Err(why) => return Err(refusal_of(why)),
-        };
-        match frame {
+        match read(frame)? {
             Frame::Request { x } => self.request::<S>(x, offer, out),
-            Frame::Notice {
-                time,
-                serial,
-                tag,
-                associated,
-                nonce,
-                mac,
-            } => {
-                let notice = Notice {
-                    time,
-                    serial,
-                    tag,
-                    associated,
-                    nonce,
-                    mac,
-                };
-                self.notice::<S>(notice, lot)
+            Frame::Notice(notice) => self.notice::<S>(notice, lot),
+            Frame::Wrapper(wrapper) if wrapper.session == GROUP => {
+                self.group_wrapper::<S>(wrapper, lot, out, work)
             }
-            Frame::Wrapper {
-                session,
-                number,
-                serial,
-                tag,
-                associated,
-                nonce,
-                ciphertext,
-                mac,
-            } => {
-                let wrapper = Wrapper {
-                    session,
-                    number,
-                    serial,
-                    tag,
-                    associated,
-                    nonce,
-                    ciphertext,
-                    mac,
-                };
-                if wrapper.session == GROUP {
-                    self.group_wrapper::<S>(wrapper, lot, out, work)
-                } else {
-                    self.session_wrapper::<S>(wrapper, out, work)
-                }
-            }
+            Frame::Wrapper(wrapper) => self.session_wrapper::<S>(wrapper, out, work),
         }
     }
 }

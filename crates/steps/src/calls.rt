@@ -1,6 +1,6 @@
 // The calls with buffers: is there room, then the step; whichever way a call ends, the work area is cleared.
 ghost use Rattle.rules.specs.Calls.{announce, arrive, due, hang_up, send};
-ghost use Rattle.steps.specs.Buffers.{has_room, lending, wiped};
+ghost use Rattle.steps.specs.Buffers.{lending, wiped};
 ghost use Rattle.steps.specs.Cores.{Does, Ready};
 ghost use Rattle.steps.specs.Steps.{carrying};
 ghost use Rattle.rules.specs.Meaning.{meaning};
@@ -11,12 +11,6 @@ use crate::wipe::Wipe;
 use frames::LARGEST_FRAME;
 use rules::answers::{Answer, Refusal};
 use sealer::Sealer;
-
-fn has_room(out: &[u8], work: &[u8]) -> bool
-    ensures { result ≡ has_room out.now work.now }
-{
-    out.len() >= LARGEST_FRAME && work.len() >= LARGEST_FRAME
-}
 
 impl Core {
     pub fn arrive<S: Sealer>(
@@ -32,10 +26,9 @@ impl Core {
         ensures work { work.new ≡ wiped work.old }
     {
         let guard = Wipe { work };
-        if !has_room(out, guard.work) {
-            return Err(Refusal::Buffers);
-        }
-        self.arrived::<S>(frame, offer, lot, out, guard.work)
+        let work = guard.work.first_chunk_mut().ok_or(Refusal::Buffers)?;
+        let out = out.first_chunk_mut().ok_or(Refusal::Buffers)?;
+        self.arrived::<S>(frame, offer, lot, out, work)
     }
 
     pub fn due<S: Sealer>(
@@ -49,9 +42,10 @@ impl Core {
         ensures work { work.new ≡ wiped work.old }
     {
         let guard = Wipe { work };
-        if !has_room(out, guard.work) {
+        if guard.work.len() < LARGEST_FRAME {
             return Err(Refusal::Buffers);
         }
+        let out = out.first_chunk_mut().ok_or(Refusal::Buffers)?;
         self.due_now::<S>(lot, out)
     }
 
@@ -67,9 +61,10 @@ impl Core {
         ensures work { work.new ≡ wiped work.old }
     {
         let guard = Wipe { work };
-        if !has_room(out, guard.work) {
+        if guard.work.len() < LARGEST_FRAME {
             return Err(Refusal::Buffers);
         }
+        let out = out.first_chunk_mut().ok_or(Refusal::Buffers)?;
         self.send_in::<S>(session, telegram, out)
     }
 
@@ -85,9 +80,10 @@ impl Core {
         ensures work { work.new ≡ wiped work.old }
     {
         let guard = Wipe { work };
-        if !has_room(out, guard.work) {
+        if guard.work.len() < LARGEST_FRAME {
             return Err(Refusal::Buffers);
         }
+        let out = out.first_chunk_mut().ok_or(Refusal::Buffers)?;
         self.announced::<S>(telegram, lot, out)
     }
 
@@ -102,9 +98,10 @@ impl Core {
         ensures work { work.new ≡ wiped work.old }
     {
         let guard = Wipe { work };
-        if !has_room(out, guard.work) {
+        if guard.work.len() < LARGEST_FRAME {
             return Err(Refusal::Buffers);
         }
+        let out = out.first_chunk_mut().ok_or(Refusal::Buffers)?;
         self.hung_up::<S>(session, out)
     }
 }

@@ -1,43 +1,38 @@
 // Frames of the group: those that arrive, and those that go out.
 ghost use Rattle.rules.specs.Meaning.{meaning};
-ghost use Rattle.std.specs.Prelude.{◌≡◌, ◌<◌, ◌≤◌, true, [], length};
-ghost use Rattle.frames.specs.Limits.{largest_frame};
+ghost use Rattle.std.specs.Prelude.{◌≡◌, ◌<◌, ◌≤◌, [], length};
 ghost use Rattle.frames.specs.Sealing.{wrapper};
 ghost use Rattle.octets.specs.Runs.{over};
-ghost use Rattle.rules.specs.Fit.{Fit};
 ghost use Rattle.rules.specs.GroupTime.{heard, next_time, tag_of, within};
 ghost use Rattle.rules.specs.Limits.{numbers};
-ghost use Rattle.rules.specs.Making.{acceptable, latency, own_serial};
+ghost use Rattle.rules.specs.Making.{latency, own_serial};
 ghost use Rattle.sealer.specs.Limits.{largest_telegram};
-ghost use Rattle.slots.specs.Rows.{Distinct};
-ghost use Rattle.steps.specs.Cores.{Becomes, Does, model};
+ghost use Rattle.steps.specs.Cores.{Becomes, Does, Ready, model};
 ghost use Rattle.steps.specs.Timed.{Timed};
 ghost use Rattle.steps.specs.Steps.{announcing, group_receiving, notifying, noticing};
 
-use crate::received::{Notice, Wrapper};
 use crate::sealed::{notify, wrap};
 use crate::sessions::is_good;
 use crate::state::Core;
 use crate::wrappers::open;
-use frames::opening::notice_opens;
+use frames::LARGEST_FRAME;
+use frames::reading::{Notice, Wrapper};
+use frames::stamps::Stamp;
 use octets::runs::put;
 use rules::answers::{Answer, Refusal};
 use rules::limits::{GROUP, GROUP_USER, NUMBERS};
 use sealer::Sealer;
 
 impl Core {
-    // A frame with its time, serial and tag: true where it is not late.
-    fn hear(&mut self, time: u64, serial: u64, tag: u16, lot: u32) -> bool
-        requires accepted { acceptable self.old.settings ≡ true }
-        requires apart { Distinct self.old.table.rows }
-        requires timed { self.old.group.timer < numbers }
-        requires time { time < numbers }
-        ensures goes { Becomes (heard self.old.settings (model self.old) time serial tag lot) self.old self.new }
-        ensures answer { result ≡ within self.old.group.timer (latency self.old.settings) time }
+    // A frame with its stamp: true where it is not late.
+    fn hear(&mut self, stamp: Stamp, lot: u32) -> bool
+        requires ready { Ready self.old }
+        requires time { stamp.number < numbers }
+        ensures goes { Becomes (heard self.old.settings (model self.old) stamp.number stamp.serial stamp.tag lot) self.old self.new }
+        ensures answer { result ≡ within self.old.group.timer (latency self.old.settings) stamp.number }
     {
-        let latency = self.settings.latency();
-        let sync = self.settings.sync();
-        self.group.heard(latency, sync, time, serial, tag, lot)
+        let tolerances = self.settings.tolerances();
+        self.group.heard(tolerances, stamp, lot)
     }
 
     // A late wrapper is taken, any other is delivered.
@@ -45,25 +40,15 @@ impl Core {
         &mut self,
         wrapper: Wrapper,
         lot: u32,
-        out: &mut [u8],
-        work: &mut [u8],
+        out: &mut [u8; LARGEST_FRAME],
+        work: &mut [u8; LARGEST_FRAME],
     ) -> Result<Answer, Refusal>
-        requires accepted { acceptable self.old.settings ≡ true }
-        requires apart { Distinct self.old.table.rows }
-        requires timed { self.old.group.timer < numbers }
-        requires time { wrapper.number < numbers }
+        requires ready { Ready self.old }
+        requires time { wrapper.stamp.number < numbers }
         requires small { length wrapper.ciphertext.now ≤ largest_telegram }
-        requires room { largest_frame ≤ length out.old }
-        requires area { largest_frame ≤ length work.old }
         ensures { Does (group_receiving (meaning S.Sealer) wrapper.entry lot) self.old self.new result out.old out.new }
     {
-        let Wrapper {
-            number,
-            serial,
-            tag,
-            ..
-        } = wrapper;
-        if serial == self.settings.own_serial() {
+        if wrapper.stamp.serial == self.settings.own_serial() {
             return Err(Refusal::OwnSerial);
         }
         let length = open::<S>(&self.settings.group, wrapper, work)?;
@@ -71,43 +56,33 @@ impl Core {
         if !is_good(telegram) {
             return Err(Refusal::Telegram);
         }
-        if !self.hear(number, serial, tag, lot) {
+        if !self.hear(wrapper.stamp, lot) {
             return Ok(Answer::Taken);
         }
         put(out, 0, telegram);
         Ok(Answer::Delivered {
             session: GROUP,
-            number,
+            number: wrapper.stamp.number,
             user: GROUP_USER,
             length,
         })
     }
 
     pub(crate) fn notice<S: Sealer>(&mut self, notice: Notice, lot: u32) -> Result<Answer, Refusal>
-        requires accepted { acceptable self.old.settings ≡ true }
-        requires apart { Distinct self.old.table.rows }
-        requires timed { self.old.group.timer < numbers }
-        requires time { notice.time < numbers }
+        requires ready { Ready self.old }
+        requires time { notice.stamp.number < numbers }
         ensures { Does (noticing (meaning S.Sealer) notice.entry lot) self.old self.new result [] [] }
     {
-        let Notice {
-            time,
-            serial,
-            tag,
-            associated,
-            nonce,
-            mac,
-        } = notice;
-        if !notice_opens::<S>(&self.settings.group, nonce, associated, mac) {
+        if !notice.opens::<S>(&self.settings.group) {
             return Err(Refusal::Opening);
         }
-        self.hear(time, serial, tag, lot);
+        self.hear(notice.stamp, lot);
         Ok(Answer::Taken)
     }
 
     // The time that the next frame to the group bears.
     fn next_time(&self) -> u64
-        requires fit { Fit (model self.now) }
+        requires ready { Ready self.now }
         ensures { result ≡ next_time self.now.group.timer self.now.group.sent }
     {
         self.group.next_time()
@@ -118,28 +93,22 @@ impl Core {
         &self,
         telegram: &[u8],
         lot: u32,
-        out: &mut [u8],
+        out: &mut [u8; LARGEST_FRAME],
     ) -> Result<(usize, u64), Refusal>
-        requires fit { Fit (model self.now) }
+        requires ready { Ready self.now }
         requires small { length telegram.now ≤ largest_telegram }
-        requires room { largest_frame ≤ length out.old }
         ensures { Timed (meaning S.Sealer) self.now.settings (next_time self.now.group.timer self.now.group.sent) lot telegram.now result out.old out.new }
     {
         let time = self.next_time();
         if time >= NUMBERS {
             return Err(Refusal::TimesSpent);
         }
-        let tag = (lot % 0x1_0000) as u16;
-        let serial = self.settings.own_serial();
-        let length = wrap::<S>(
-            &self.settings.group,
-            GROUP,
-            time,
-            serial,
-            tag,
-            telegram,
-            out,
-        )?;
+        let stamp = Stamp {
+            number: time,
+            serial: self.settings.own_serial(),
+            tag: (lot % 0x1_0000) as u16,
+        };
+        let length = wrap::<S>(&self.settings.group, GROUP, stamp, telegram, out)?;
         Ok((length, time))
     }
 
@@ -147,11 +116,9 @@ impl Core {
         &mut self,
         telegram: &[u8],
         lot: u32,
-        out: &mut [u8],
+        out: &mut [u8; LARGEST_FRAME],
     ) -> Result<Answer, Refusal>
-        requires apart { Distinct self.old.table.rows }
-        requires fit { Fit (model self.old) }
-        requires room { largest_frame ≤ length out.old }
+        requires ready { Ready self.old }
         ensures { Does (announcing (meaning S.Sealer) telegram.now lot) self.old self.new result out.old out.new }
     {
         if !is_good(telegram) {
@@ -166,22 +133,23 @@ impl Core {
     pub(crate) fn notify_due<S: Sealer>(
         &mut self,
         lot: u32,
-        out: &mut [u8],
+        out: &mut [u8; LARGEST_FRAME],
     ) -> Result<Answer, Refusal>
-        requires accepted { acceptable self.old.settings ≡ true }
-        requires apart { Distinct self.old.table.rows }
-        requires fit { Fit (model self.old) }
-        requires room { largest_frame ≤ length out.old }
+        requires ready { Ready self.old }
         ensures { Does (notifying (meaning S.Sealer) lot) self.old self.new result out.old out.new }
     {
         let time = self.next_time();
         if self.group.countdown != 0 || time >= NUMBERS {
             return Ok(Answer::Nothing);
         }
-        let serial = self.group.notice_serial(self.settings.own_serial());
-        let tag = self.group.notice_tag(lot);
-        let length = notify::<S>(&self.settings.group, time, serial, tag, out)?;
-        self.group.notified_at(self.settings.sync(), time, lot);
+        let stamp = Stamp {
+            number: time,
+            serial: self.group.notice_serial(self.settings.own_serial()),
+            tag: self.group.notice_tag(lot),
+        };
+        let length = notify::<S>(&self.settings.group, stamp, out)?;
+        self.group
+            .notified_at(self.settings.tolerances(), time, lot);
         Ok(Answer::Frame { length })
     }
 }

@@ -1,21 +1,20 @@
 // Session requests.
 ghost use Rattle.rules.specs.Meaning.{meaning};
 ghost use Rattle.std.specs.Prelude.{◌≡◌, ◌≤◌, length, Ok};
-ghost use Rattle.frames.specs.Limits.{largest_frame};
 ghost use Rattle.frames.specs.Writing.{no_session};
 ghost use Rattle.octets.specs.Runs.{over};
 ghost use Rattle.rules.specs.declared.answers.Answer.TheVariants as answer;
-ghost use Rattle.slots.specs.Rows.{Distinct};
-ghost use Rattle.steps.specs.Cores.{Does};
+ghost use Rattle.steps.specs.Cores.{Does, Ready};
 ghost use Rattle.steps.specs.Offers.{Offers};
 ghost use Rattle.steps.specs.Steps.{requesting};
 
 use crate::sealed::respond;
 use crate::state::Core;
 use cipher::Block;
-use frames::headers::part_at;
+use frames::LARGEST_FRAME;
 use frames::writing::refuse_session;
-use octets::numbers::u16_at;
+use octets::numbers::number_at;
+use octets::runs::part_at;
 use rules::answers::{Answer, Refusal};
 use sealer::Sealer;
 use slots::slot::Slot;
@@ -36,7 +35,7 @@ fn read_offer(octets: &[u8]) -> Option<Offer>
     if octets.len() != OFFER_LENGTH {
         return None;
     }
-    let session = u16_at(octets, 0);
+    let session: u16 = number_at(octets, 0);
     if session == 0 {
         return None;
     }
@@ -48,8 +47,7 @@ fn read_offer(octets: &[u8]) -> Option<Offer>
 }
 
 // There is no free slot.
-fn decline(out: &mut [u8]) -> Result<Answer, Refusal>
-    requires room { largest_frame ≤ length out.old }
+fn decline(out: &mut [u8; LARGEST_FRAME]) -> Result<Answer, Refusal>
     ensures answer { result ≡ Ok (answer.Frame (length no_session)) }
     ensures out { out.new ≡ over no_session out.old }
 {
@@ -62,15 +60,12 @@ impl Core {
         &mut self,
         x: &[u8; 32],
         offer: &[u8],
-        out: &mut [u8],
+        out: &mut [u8; LARGEST_FRAME],
     ) -> Result<Answer, Refusal>
-        requires apart { Distinct self.old.table.rows }
-        requires room { largest_frame ≤ length out.old }
+        requires ready { Ready self.old }
         ensures { Does (requesting (meaning S.Sealer) x.now offer.now) self.old self.new result out.old out.new }
     {
-        let Some(offer) = read_offer(offer) else {
-            return Err(Refusal::Offer);
-        };
+        let offer = read_offer(offer).ok_or(Refusal::Offer)?;
         if self.table.find(offer.session).is_some() {
             return Err(Refusal::Offer);
         }

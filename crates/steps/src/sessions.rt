@@ -1,46 +1,49 @@
 // Sessions: found, told a status, ended, sent to.
 ghost use Rattle.rules.specs.Meaning.{meaning};
-ghost use Rattle.std.specs.Prelude.{◌≡◌, ◌<◌, ◌≤◌, true, length, Ok};
-ghost use Rattle.frames.specs.Limits.{largest_frame};
-ghost use Rattle.frames.specs.Writing.{status};
+ghost use Rattle.std.specs.Prelude.{◌≡◌, ◌≤◌, true, length, Ok};
+ghost use Rattle.frames.specs.Writing as writing;
 ghost use Rattle.octets.specs.Runs.{over};
-ghost use Rattle.rules.specs.Limits.{slots};
 ghost use Rattle.frames.specs.Telegrams.{is_good};
 ghost use Rattle.rules.specs.Rules.{own_wrapper};
 ghost use Rattle.rules.specs.declared.answers.Answer.TheVariants as answer;
 ghost use Rattle.sealer.specs.Limits.{largest_telegram};
-ghost use Rattle.slots.specs.Rows.{Distinct, look_up, row, session_of};
-ghost use Rattle.steps.specs.Cores.{Does};
-ghost use Rattle.steps.specs.Steps.{ending, hanging_up, number_at, sending, sending_at};
-ghost use Rattle.steps.specs.Living.{Lives};
+ghost use Rattle.slots.specs.Rows.{session_of};
+ghost use Rattle.steps.specs.Cores.{Does, Ready};
+ghost use Rattle.steps.specs.Steps.{ending, hanging_up, sending, sending_at};
+ghost use Rattle.steps.specs.Living.{Lives, Standing};
+ghost use Rattle.steps.specs.Statuses.{number_of};
 
 use crate::sealed::wrap;
 use crate::state::Core;
-use clock::group::LAST_TIME;
+use crate::statuses::Status;
+use frames::LARGEST_FRAME;
+use frames::stamps::Stamp;
 use frames::telegrams::family;
 use frames::writing::status_telegram;
 use rules::answers::{Answer, Refusal};
+use rules::limits::LAST_TIME;
 use rules::settings::Settings;
 use sealer::Sealer;
+use slots::place::Place;
 use slots::slot::{Slot, State};
-
-// The status that closes a session.
-pub(crate) const CLOSE: u8 = 5;
 
 // An own wrapper of a session around a telegram; answers its length and its number.
 fn seal_own<S: Sealer>(
     settings: &Settings,
     slot: &Slot,
     telegram: &[u8],
-    out: &mut [u8],
+    out: &mut [u8; LARGEST_FRAME],
 ) -> Result<(usize, u64), Refusal>
     requires small { length telegram.now ≤ largest_telegram }
-    requires room { largest_frame ≤ length out.old }
     ensures answer { result ≡ Ok (length (own_wrapper settings.now (meaning S.Sealer) slot.now.number (session_of slot.now) telegram.now), slot.now.own) }
     ensures out { out.new ≡ over (own_wrapper settings.now (meaning S.Sealer) slot.now.number (session_of slot.now) telegram.now) out.old }
 {
-    let serial = settings.own_serial();
-    let length = wrap::<S>(&slot.key, slot.number, slot.own, serial, 0, telegram, out)?;
+    let stamp = Stamp {
+        number: slot.own,
+        serial: settings.own_serial(),
+        tag: 0,
+    };
+    let length = wrap::<S>(&slot.key, slot.number, stamp, telegram, out)?;
     Ok((length, slot.own))
 }
 
@@ -48,14 +51,13 @@ fn seal_own<S: Sealer>(
 pub(crate) fn tell<S: Sealer>(
     settings: &Settings,
     slot: &Slot,
-    code: u8,
-    out: &mut [u8],
+    status: Status,
+    out: &mut [u8; LARGEST_FRAME],
 ) -> Result<Answer, Refusal>
-    requires room { largest_frame ≤ length out.old }
-    ensures answer { result ≡ Ok (answer.Frame (length (own_wrapper settings.now (meaning S.Sealer) slot.now.number (session_of slot.now) (status code)))) }
-    ensures out { out.new ≡ over (own_wrapper settings.now (meaning S.Sealer) slot.now.number (session_of slot.now) (status code)) out.old }
+    ensures answer { result ≡ Ok (answer.Frame (length (own_wrapper settings.now (meaning S.Sealer) slot.now.number (session_of slot.now) (writing.status (number_of status))))) }
+    ensures out { out.new ≡ over (own_wrapper settings.now (meaning S.Sealer) slot.now.number (session_of slot.now) (writing.status (number_of status))) out.old }
 {
-    let (length, _) = seal_own::<S>(settings, slot, &status_telegram(code), out)?;
+    let (length, _) = seal_own::<S>(settings, slot, &status_telegram(status.number()), out)?;
     Ok(Answer::Frame { length })
 }
 
@@ -69,32 +71,27 @@ pub(crate) fn is_good(telegram: &[u8]) -> bool
 
 impl Core {
     // The place of a session that has not lapsed.
-    pub(crate) fn live(&self, session: u16) -> Result<usize, Refusal>
-        ensures { Lives self.now.table.rows session result }
+    pub(crate) fn live(&self, session: u16) -> Result<Place, Refusal>
+        ensures { Lives self.now session result }
     {
-        let Some(at) = self.table.find(session) else {
-            return Err(Refusal::Session);
-        };
-        if self.table.slot(at).lapsed() {
-            return Err(Refusal::Session);
-        }
-        Ok(at)
+        self.table
+            .find(session)
+            .filter(|at| !self.table.slot(*at).lapsed())
+            .ok_or(Refusal::Session)
     }
 
     // A status goes out, and the session ends.
     pub(crate) fn end<S: Sealer>(
         &mut self,
-        at: usize,
-        code: u8,
-        out: &mut [u8],
+        at: Place,
+        status: Status,
+        out: &mut [u8; LARGEST_FRAME],
     ) -> Result<Answer, Refusal>
-        requires within { at < slots }
-        requires apart { Distinct self.old.table.rows }
-        requires room { largest_frame ≤ length out.old }
-        ensures { Does (ending (meaning S.Sealer) at code) self.old self.new result out.old out.new }
+        requires ready { Ready self.old }
+        ensures { Does (ending (meaning S.Sealer) at (number_of status)) self.old self.new result out.old out.new }
     {
         let slot = self.table.slot(at);
-        let answer = tell::<S>(&self.settings, &slot, code, out);
+        let answer = tell::<S>(&self.settings, &slot, status, out);
         self.table.end(at);
         answer
     }
@@ -102,27 +99,24 @@ impl Core {
     pub(crate) fn hung_up<S: Sealer>(
         &mut self,
         session: u16,
-        out: &mut [u8],
+        out: &mut [u8; LARGEST_FRAME],
     ) -> Result<Answer, Refusal>
-        requires apart { Distinct self.old.table.rows }
-        requires room { largest_frame ≤ length out.old }
+        requires ready { Ready self.old }
         ensures { Does (hanging_up (meaning S.Sealer) session) self.old self.new result out.old out.new }
     {
         let at = self.live(session)?;
-        self.end::<S>(at, CLOSE, out)
+        self.end::<S>(at, Status::Close, out)
     }
 
     fn send_at<S: Sealer>(
         &mut self,
-        at: usize,
+        at: Place,
         telegram: &[u8],
-        out: &mut [u8],
+        out: &mut [u8; LARGEST_FRAME],
     ) -> Result<Answer, Refusal>
-        requires within { at < slots }
-        requires some { 0 < number_at self.old at }
-        requires apart { Distinct self.old.table.rows }
+        requires ready { Ready self.old }
+        requires stands { Standing self.old at }
         requires small { length telegram.now ≤ largest_telegram }
-        requires room { largest_frame ≤ length out.old }
         ensures { Does (sending_at (meaning S.Sealer) at telegram.now) self.old self.new result out.old out.new }
     {
         let slot = self.table.slot(at);
@@ -142,10 +136,9 @@ impl Core {
         &mut self,
         session: u16,
         telegram: &[u8],
-        out: &mut [u8],
+        out: &mut [u8; LARGEST_FRAME],
     ) -> Result<Answer, Refusal>
-        requires apart { Distinct self.old.table.rows }
-        requires room { largest_frame ≤ length out.old }
+        requires ready { Ready self.old }
         ensures { Does (sending (meaning S.Sealer) session telegram.now) self.old self.new result out.old out.new }
     {
         let at = self.live(session)?;

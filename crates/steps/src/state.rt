@@ -25,7 +25,7 @@ impl Core {
         settings.are_proper();
         Core {
             settings,
-            group: Group::new(settings.sync(), settings.start),
+            group: Group::new(settings.tolerances(), settings.start),
             table: Table::new(),
         }
     }

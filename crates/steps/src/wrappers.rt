@@ -1,18 +1,15 @@
 // Wrappers of a session that arrive.
 ghost use Rattle.rules.specs.Meaning.{meaning};
-ghost use Rattle.std.specs.Prelude.{◌≡◌, ◌<◌, ◌≤◌, length};
-ghost use Rattle.frames.specs.Limits.{largest_frame};
-ghost use Rattle.rules.specs.Fit.{Fit};
+ghost use Rattle.std.specs.Prelude.{◌≡◌, ◌≤◌, length};
 ghost use Rattle.sealer.specs.Limits.{largest_telegram};
-ghost use Rattle.slots.specs.Rows.{Distinct};
-ghost use Rattle.steps.specs.Cores.{Does, model};
+ghost use Rattle.steps.specs.Cores.{Does, Ready};
 ghost use Rattle.steps.specs.Opened.{Opens};
 ghost use Rattle.steps.specs.Steps.{opening, receiving};
 
-use crate::received::Wrapper;
 use crate::state::Core;
 use cipher::Block;
-use frames::opening::open_wrapper;
+use frames::LARGEST_FRAME;
+use frames::reading::Wrapper;
 use rules::answers::{Answer, Refusal};
 use sealer::Sealer;
 
@@ -20,45 +17,34 @@ use sealer::Sealer;
 pub(crate) fn open<S: Sealer>(
     key: &Block,
     wrapper: Wrapper,
-    work: &mut [u8],
+    work: &mut [u8; LARGEST_FRAME],
 ) -> Result<usize, Refusal>
     requires small { length wrapper.ciphertext.now ≤ largest_telegram }
-    requires room { largest_frame ≤ length work.old }
     ensures { Opens (opening (meaning S.Sealer) key.now wrapper.entry) work.new result }
 {
-    let Wrapper {
-        nonce,
-        associated,
-        ciphertext,
-        mac,
-        ..
-    } = wrapper;
-    open_wrapper::<S>(key, nonce, associated, ciphertext, mac, work).ok_or(Refusal::Opening)
+    wrapper.open::<S>(key, work).ok_or(Refusal::Opening)
 }
 
 impl Core {
     pub(crate) fn session_wrapper<S: Sealer>(
         &mut self,
         wrapper: Wrapper,
-        out: &mut [u8],
-        work: &mut [u8],
+        out: &mut [u8; LARGEST_FRAME],
+        work: &mut [u8; LARGEST_FRAME],
     ) -> Result<Answer, Refusal>
-        requires fit { Fit (model self.old) }
-        requires apart { Distinct self.old.table.rows }
+        requires ready { Ready self.old }
         requires small { length wrapper.ciphertext.now ≤ largest_telegram }
-        requires room { largest_frame ≤ length out.old }
-        requires area { largest_frame ≤ length work.old }
         ensures { Does (receiving (meaning S.Sealer) wrapper.entry) self.old self.new result out.old out.new }
     {
         let at = self.live(wrapper.session)?;
-        if wrapper.serial == self.settings.own_serial() {
+        if wrapper.stamp.serial == self.settings.own_serial() {
             return Err(Refusal::OwnSerial);
         }
         let slot = self.table.slot(at);
-        if !slot.is_new(wrapper.number) {
+        if !slot.is_new(wrapper.stamp.number) {
             return Err(Refusal::Number);
         }
         let length = open::<S>(&slot.key, wrapper, work)?;
-        self.act::<S>(at, wrapper.number, &work[..length], out)
+        self.act::<S>(at, wrapper.stamp.number, &work[..length], out)
     }
 }

@@ -1,12 +1,11 @@
-use Rattle.std.proofs.Common.{sym, arith, below_more}
-use Rattle.slots.proofs.Looks.{free_at, held_all}
+use borrow.Author.Tests.{tests}
+use Rattle.std.proofs.Common.{◌≡◌, true, false, rules}
+use Rattle.std.proofs.lemmas.Iterator.{IsFirst-from_position, YieldsList-from_slice}
+use Rattle.slots.specs.Rows.{is_free}
+use Rattle.slots.proofs.Looks.{frees}
 use Rattle.slots.proofs.table.free_place.Goals as goal
 
-pub returns-then-is_free : goal.returns-then-is_free
-returns-then-is_free c = free_at c.args.rows.now c.loop-i.i c.loop-i-test.true (sym c.if-is_free.ensures)
-
-pub loop-i-preserved : goal.loop-i-preserved
-loop-i-preserved c = below_more _ _ c.loop-i.invariant (sym c.if-is_free.ensures)
-
 pub returns : goal.returns
-returns c = held_all c.args.rows.now (λ j lt. c.loop-i.invariant j (omega arith))
+returns c =
+    frees c.args.rows.now _
+    (IsFirst-from_position _ _ _ (λ r. is_free r ≡ true) (λ r. is_free r ≡ false) c.position.ensures.ran (YieldsList-from_slice c.args.rows.now cc) (λ x q k. search (rules, tests)) (λ x q k. search (rules, tests)))

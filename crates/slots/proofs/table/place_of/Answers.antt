@@ -1,12 +1,11 @@
-use Rattle.std.proofs.Common.{sym, arith, below_more}
-use Rattle.slots.proofs.Looks.{found, look_none}
+use borrow.Author.Tests.{tests}
+use Rattle.std.proofs.Common.{◌≡◌, true, false, rules}
+use Rattle.std.proofs.lemmas.Iterator.{IsFirst-from_position, YieldsList-from_slice}
+use Rattle.slots.specs.Rows.{has}
+use Rattle.slots.proofs.Looks.{finds}
 use Rattle.slots.proofs.table.place_of.Goals as goal
 
-pub returns-then-has : goal.returns-then-has
-returns-then-has c = found c.args.rows.now c.args.number c.loop-i.i c.loop-i-test.true (sym c.if-has.ensures) c.loop-i.invariant
-
-pub loop-i-preserved : goal.loop-i-preserved
-loop-i-preserved c = below_more _ _ c.loop-i.invariant (sym c.if-has.ensures)
-
 pub returns : goal.returns
-returns c = look_none c.args.rows.now c.args.number (λ j lt. c.loop-i.invariant j (omega arith))
+returns c =
+    finds c.args.rows.now c.args.number _
+    (IsFirst-from_position _ _ _ (λ r. has c.args.number r ≡ true) (λ r. has c.args.number r ≡ false) c.position.ensures.ran (YieldsList-from_slice c.args.rows.now cc) (λ x q k. search (rules, tests)) (λ x q k. search (rules, tests)))

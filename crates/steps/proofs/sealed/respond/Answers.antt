@@ -9,6 +9,6 @@ returns g c =
     let long = response_length (meaning g.S.Sealer) c.args.key.now c.told-key c.args.session c.args.x.now c.args.y.now c.told-y in
     let is = c.seal_response.ensures.length in
     record {
-      length = put_length _ _ out long (omega (arith, c.requires.room)) _ is _ _ c.ok_or.ensures.value;
-      out = put_front _ _ out long (omega (arith, c.requires.room)) _ is _ c.seal_response.ensures.out;
+      length = put_length _ _ out long (omega (arith, c.told-out)) _ is _ _ c.ok_or.ensures.value;
+      out = put_front _ _ out long (omega (arith, c.told-out)) _ is _ c.seal_response.ensures.out;
     }

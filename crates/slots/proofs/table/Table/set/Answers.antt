@@ -5,5 +5,5 @@ use Rattle.slots.proofs.table.Table.set.Goals as goal
 pub returns : goal.returns
 returns c =
     let rows = c.args.self.now.rows in
-    let inside : c.args.at < length rows = search rules in
-    changed rows c.write.new.rows c.args.at c.args.slot inside c.requires.same c.requires.some c.requires.apart c.write.ensures
+    let inside : c.args.at.index < length rows = search rules in
+    changed rows c.write.new.self.rows c.args.at.index c.args.slot inside c.requires.same c.requires.some c.requires.apart c.write.ensures
