@@ -1,5 +1,5 @@
 // How fast arrive is over the KNX sealer and AES-128: wrappers that are delivered and wrappers that are refused.
-ghost use Rattle.std.specs.Prelude.{◌×◌, ◌≤◌};
+ghost use Rattle.std.specs.Prelude.{◌≤◌};
 
 use anyhow::{anyhow, bail};
 use cipher::aes::Aes128;
@@ -196,13 +196,7 @@ pub fn measure_calls(rt: &HostRuntime) -> anyhow::Result<()> {
     for session in 2..9 {
         line.open_session(session)?;
     }
-    measure_deliveries::<102>(
-        rt,
-        &mut line,
-        8,
-        2000,
-        "64-octets-of-the-eighth-session",
-    )?;
+    measure_deliveries::<102>(rt, &mut line, 8, 2000, "64-octets-of-the-eighth-session")?;
     measure_deliveries::<102>(rt, &mut line, 1, 2000, "64-octets-after-500000-calls")?;
     let mut frame = make_frame(1, line.number.wrapping_add(1));
     frame[101] ^= 1;

@@ -2,26 +2,26 @@
 // too where the number of blocks is odd: what is left is the XOR of all blocks but the first, of the telegram's length and FF00,
 // and of the key where the number of blocks is even. A ciphertext is telegram XOR nonce, FF, 01 XOR key.
 use crate::site::{GOOD, LONGEST, OWN, key_of};
-use octets::numbers::{octets_of_u16, octets_of_u48};
+use octets::numbers::{Number, put_number};
 use octets::runs::{put, xor_into};
 use sealer::Nonce;
 
 // Number or time, serial, tag.
 fn nonce(number: u64, serial: u64, tag: u16) -> Nonce {
     let mut nonce = [0; 14];
-    put(&mut nonce, 0, &octets_of_u48(number));
-    put(&mut nonce, 6, &octets_of_u48(serial));
-    put(&mut nonce, 12, &octets_of_u16(tag));
+    put_number(&mut nonce, 0, number);
+    put_number(&mut nonce, 6, serial);
+    put_number(&mut nonce, 12, tag);
     nonce
 }
 
 // The session response: four blocks. X XOR Y are 32 octets 01, which cancel; the key is sixteen 22.
 pub fn response(session: u16) -> [u8; 56] {
     let mut mac = *b"\x22\x0a\x24\x32\x2b\x70\x22\x1a\x22\x22\x22\x22\x22\x22\xdd\x22";
-    xor_into(&mut mac[8..], &octets_of_u16(session));
+    xor_into(&mut mac[8..], &session.octets());
     let mut frame = [0; 56];
     put(&mut frame, 0, b"\x06\x10\x09\x52\x00\x38");
-    put(&mut frame, 6, &octets_of_u16(session));
+    put_number(&mut frame, 6, session);
     put(&mut frame, 8, &[0x0b; 32]);
     put(&mut frame, 40, &mac);
     frame
@@ -30,14 +30,14 @@ pub fn response(session: u16) -> [u8; 56] {
 // A status in a wrapper of our own: three blocks, the last with the telegram's last two octets.
 pub fn status(session: u16, number: u64, code: u8) -> [u8; 46] {
     let mut text = [0x06, 0x10, 0x09, 0x54, 0x00, 0x08, code, 0xfa];
-    xor_into(&mut text, &octets_of_u48(number));
+    xor_into(&mut text, &number.octets());
     xor_into(&mut text, &key_of(session));
     let mut mac = *b"\x00\x08\x06\x10\x09\x50\x00\x2e\x00\x00\x06\x10\x09\x54\xff\x00";
     mac[0] = code;
-    put(&mut mac, 8, &octets_of_u16(session));
+    put_number(&mut mac, 8, session);
     let mut frame = [0; 46];
     put(&mut frame, 0, b"\x06\x10\x09\x50\x00\x2e");
-    put(&mut frame, 6, &octets_of_u16(session));
+    put_number(&mut frame, 6, session);
     put(&mut frame, 8, &nonce(number, OWN, 0));
     put(&mut frame, 22, &text);
     put(&mut frame, 30, &mac);
@@ -47,14 +47,14 @@ pub fn status(session: u16, number: u64, code: u8) -> [u8; 46] {
 // The good telegram in a wrapper: two blocks.
 fn wrapper(session: u16, number: u64, serial: u64, tag: u16) -> [u8; 44] {
     let mut text = *GOOD;
-    xor_into(&mut text, &octets_of_u48(number));
+    xor_into(&mut text, &number.octets());
     xor_into(&mut text, &key_of(session));
     let mut mac = *b"\x00\x08\x06\x10\x09\x50\x00\x2c\x00\x00\x06\x10\x05\x30\xff\x00";
-    put(&mut mac, 8, &octets_of_u16(session));
+    put_number(&mut mac, 8, session);
     xor_into(&mut mac, &key_of(session));
     let mut frame = [0; 44];
     put(&mut frame, 0, b"\x06\x10\x09\x50\x00\x2c");
-    put(&mut frame, 6, &octets_of_u16(session));
+    put_number(&mut frame, 6, session);
     put(&mut frame, 8, &nonce(number, serial, tag));
     put(&mut frame, 22, &text);
     put(&mut frame, 28, &mac);

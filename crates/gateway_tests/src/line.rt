@@ -2,7 +2,9 @@
 use crate::site::{CLIENT, OWN, SIGN_IN_1};
 use crate::{by_hand, site};
 use cipher::bench::Bench;
+use frames::WRAPPER_OVERHEAD;
 use frames::sealing::seal_wrapper;
+use frames::stamps::Stamp;
 use gateway::Gateway;
 use rules::answers::{Answer, Refusal};
 use rules::settings::Settings;
@@ -87,9 +89,13 @@ fn make_frame<S: Sealer>(heap: Global, step: &Step) -> Result<Vec<u8>, AllocErro
         }
         Step::Wrapped(session, number, telegram) => {
             let key = site::key_of(session);
-            let mut frame = vec![in heap; 0; telegram.len().saturating_add(38)]?;
-            let out = frame.as_mut_slice();
-            seal_wrapper::<S>(&key, session, number, CLIENT, 0, telegram, out);
+            let stamp = Stamp {
+                number,
+                serial: CLIENT,
+                tag: 0,
+            };
+            let mut frame = vec![in heap; 0; telegram.len().saturating_add(WRAPPER_OVERHEAD)]?;
+            seal_wrapper::<S>(&key, session, stamp, telegram, frame.as_mut_slice());
             Ok(frame)
         }
         Step::Request(_) | Step::Offer(_) => site::REQUEST.to_vec(heap),

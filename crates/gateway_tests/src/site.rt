@@ -1,5 +1,5 @@
 // A site: settings, keys, and what its client sends.
-use octets::numbers::octets_of_u16;
+use octets::numbers::put_number;
 use octets::runs::put;
 use published::knx;
 use rules::settings::{Settings, User};
@@ -86,17 +86,17 @@ pub fn key_of(session: u16) -> [u8; 16] {
 
 // Octets that state their length: a kind, then zeros.
 pub fn stating(heap: Global, kind: u16, size: u16) -> Result<Vec<u8>, AllocError> {
-    let mut frame = Vec::new(heap);
-    frame.extend_from_slice(b"\x06\x10")?;
-    frame.extend_from_slice(&octets_of_u16(kind))?;
-    frame.extend_from_slice(&octets_of_u16(size))?;
+    let mut header = *b"\x06\x10\x00\x00\x00\x00";
+    put_number(&mut header, 2, kind);
+    put_number(&mut header, 4, size);
+    let mut frame = header.to_vec(heap)?;
     frame.resize(size as usize, 0)?;
     Ok(frame)
 }
 
 pub fn offer(session: u16) -> [u8; 50] {
     let mut offer = [0; 50];
-    put(&mut offer, 0, &octets_of_u16(session));
+    put_number(&mut offer, 0, session);
     put(&mut offer, 2, &[0x0b; 32]);
     put(&mut offer, 34, &key_of(session));
     offer
