@@ -1,7 +1,6 @@
 -- Calls in a run, with the buffers that the run lends them. Assumes nothing.
-use Rattle.std.proofs.Common.{◌≡◌, ℕ, ◌+◌, ◌<◌, ◌≤◌, true, false, cond, List, [], ◌∷◌, ◌++◌, map, length, get_or, take, replicate, is_ok, is_err, Ok, Err, Result, sym, refl, ap, ◌∙◌, subst}
+use Rattle.std.proofs.Common.{◌≡◌, ℕ, ◌+◌, ◌<◌, ◌≤◌, true, List, [], ◌∷◌, ◌++◌, map, length, get_or, take, replicate, Result, sym, refl, ap, ◌∙◌, subst}
 use Rattle.std.proofs.lemmas.List.{length-replicate, map_push, take_all, take_more}
-use Rattle.std.proofs.lemmas.Bool.{both_ways}
 use Rattle.frames.specs.Limits.{largest_frame}
 use Rattle.rules.proofs.Kept.{runs_keep_the_law}
 use Rattle.rules.specs.Calls as rule
@@ -71,11 +70,6 @@ same_more : (calls : List Call) (i : ℕ) (d : Call) (es : List Event) (e : Even
     → map (λ d. d.call) (es ++ e ∷ []) ≡ take (i + 1) calls
 same_more calls i d es e lt p so = map_push (λ d. d.call) es e ∙ (λ j. so j ++ p j ∷ []) ∙ sym (take_more calls i d lt)
 
--- a push that went through
-pushed : {A B C : Type 0} (r : Result A B) (xs ys : List C) → is_err r ≡ false → cond (is_ok r) xs ys ≡ xs
-pushed {A} {B} {C} (Ok a) xs ys e = refl
-pushed {A} {B} {C} (Err b) xs ys e = absurd (both_ways true e refl)
-
 module _ (M : Meaning) (core core' : Core) (calls : List Call) (i : ℕ) (d : Call) (es : List Event) (e : Event) (follows : Follows M (get_or calls i d) core core' e) where
   -- with the settings that the gateway has
   more : SoFar M core.settings core calls i es → i < length calls → SoFar M core.settings core' calls (i + 1) (es ++ e ∷ [])
@@ -91,11 +85,10 @@ module _ (M : Meaning) (core core' : Core) (calls : List Call) (i : ℕ) (d : Ca
         ruled = seen_more es e [] ∙ ap (λ h. seen e ∷ h) far.ruled ∙ sym (follows.newest cs far.proper far.leads) ∙ ap (history core.settings M) (sym is);
       }
 
-  pub one_more : {A B : Type 0} (set : Settings) (es' : List Event) (r : Result A B) → SoFar M set core calls i es → i < length calls
-      → is_err r ≡ false → es' ≡ cond (is_ok r) (es ++ e ∷ []) es → SoFar M set core' calls (i + 1) es'
-  one_more {A} {B} set es' r far lt went items =
+  pub one_more : (set : Settings) (es' : List Event) → SoFar M set core calls i es → i < length calls → es' ≡ es ++ e ∷ [] → SoFar M set core' calls (i + 1) es'
+  one_more set es' far lt items =
       let stays = far.settings_stay in
-      subst (λ (xs : List Event). SoFar M set core' calls (i + 1) xs) (sym (items ∙ pushed r (es ++ e ∷ []) es went))
+      subst (λ (xs : List Event). SoFar M set core' calls (i + 1) xs) (sym items)
       (subst (λ (s : Settings). SoFar M s core' calls (i + 1) (es ++ e ∷ [])) stays (more (subst (λ (s : Settings). SoFar M s core calls i es) (sym stays) far) lt))
 
 pub ran : (M : Meaning) (set : Settings) (core made : Core) (calls : List Call) (i : ℕ) (es : List Event) → Ready made → Made M set made

@@ -17,14 +17,14 @@ use Rattle.steps.specs.Buffers.{wiped}
 use Rattle.steps.specs.Cores.{Becomes, Does, Ready, model}
 use Rattle.steps.specs.Steps.{carrying, waited}
 use Rattle.steps.specs.declared.state.Core.{Core}
-use Rattle.gateway.specs.Obeyed.{Lawful, Obeys, event_of}
+use Rattle.gateway.specs.Obeyed.{Lawful, Obeys, Promise, event_of}
 
 module _ (M : Meaning) (call : Call) (before after : Core) (r : Result Answer Refusal) (out work : List ℕ)
     (does : Does (carrying M call) before after r (lent call).out out) (clears : work ≡ wiped (lent call).work) where
   abbrev step : Step
   step = next before.settings M (model before) call
 
-  pub obeys : Obeys M call before after r out work
+  obeys : Obeys M call before after r out work
   obeys = record {
     answers = does.answers;
     tells = ap told does.answers;
@@ -46,7 +46,7 @@ module _ (M : Meaning) (call : Call) (before after : Core) (r : Result Answer Re
   }
 
   module _ (h : Ready before) (proper : ProperCall call) where
-    pub ready_after : Ready after
+    ready_after : Ready after
     ready_after = record {
       proper = subst ProperSettings (sym does.goes.settings_stay) h.proper;
       accepted = ap acceptable does.goes.settings_stay ∙ h.accepted;
@@ -54,13 +54,17 @@ module _ (M : Meaning) (call : Call) (before after : Core) (r : Result Answer Re
       fit = subst Fit (sym does.goes.is) (fit_next before.settings M h.proper (model before) call h.fit proper);
     }
 
-    pub lawful : Lawful M call before after r out work
+    lawful : Lawful M call before after r out work
     lawful calls pc led = record {
       proper = (proper, pc);
       leads = ap (λ (g : Model). (next before.settings M g call).to) led ∙ sym does.goes.is;
       newest = ap (λ (e : Event). e ∷ history before.settings M calls) (ap (λ (g : Model). event before.settings M g call) led ∙ event_is);
       keeps = runs_keep_the_law M before.settings h.proper h.accepted (call ∷ calls) (proper, pc);
     }
+
+    -- both, as each call promises them
+    pub kept : Ready after × Promise M call before after r out work
+    kept = (ready_after, record { rule = obeys; law = lawful })
 
 pub passing : (M : Meaning) (ms : ℕ) (before after : Core) → Becomes (waited ms before) before after → Does (carrying M (pass ms)) before after (Ok Taken) [] []
 passing M ms before after b = record { answers = refl; goes = b; writes = refl }

@@ -1,4 +1,5 @@
 // The calls on the fields of a gateway, each with its rule and with the law over every run that led there.
+// They stand apart from the methods of Gateway, which are thin over them: so a wrong method fails at its own contract.
 ghost use Rattle.gateway.specs.Obeyed.{Promise};
 ghost use Rattle.rules.specs.Calls.{announce, arrive, due, hang_up, pass, send};
 ghost use Rattle.rules.specs.Meaning.{meaning};

@@ -2,6 +2,7 @@
 ghost use Rattle.gateway.specs.Made.{EitherWay};
 ghost use Rattle.gateway.specs.Obeyed.{Promise};
 ghost use Rattle.gateway.specs.Ran.{Follows, Ran, Stops, call_of, out_of};
+ghost use Rattle.gateway.specs.declared.runs.Stopped.TheVariants.{NoMemory, Refused};
 ghost use Rattle.rules.specs.Meaning.{meaning};
 ghost use Rattle.std.specs.Prelude.{◌≡◌};
 
@@ -10,9 +11,9 @@ use frames::LARGEST_FRAME;
 use rules::answers::{Answer, Refusal};
 use rules::settings::Settings;
 use sealer::Sealer;
-use std::alloc::Global;
+use std::alloc::{AllocFailed, Global};
 
-#[derive(Clone, Copy)]
+#[derive(Clone, Copy, PartialEq, Eq)]
 pub enum Call<'a> {
     Arrive {
         frame: &'a [u8],
@@ -39,7 +40,7 @@ pub enum Call<'a> {
 }
 
 // What came of a call.
-#[derive(Clone, Copy)]
+#[derive(Clone, Copy, PartialEq, Eq)]
 pub struct Event<'a> {
     pub call: Call<'a>,
     pub answer: Result<Answer, Refusal>,
@@ -50,22 +51,24 @@ pub struct Event<'a> {
     pub after: u64,
 }
 
-// One call, with the buffers that it is lent.
-fn carry_out<S: Sealer>(
-    gateway: &mut Gateway<S>,
-    call: Call,
-    out: &mut [u8],
-    work: &mut [u8],
-) -> Result<Answer, Refusal>
-    ensures { Promise (meaning S.Sealer) (call_of call.entry out.old work.old) gateway.old.core gateway.new.core result (out_of call.entry out.new) (out_of call.entry work.new) }
-{
-    match call {
-        Call::Arrive { frame, offer, lot } => gateway.arrive(frame, offer, lot, out, work),
-        Call::Pass { milliseconds } => Ok(gateway.pass(milliseconds)),
-        Call::Due { lot } => gateway.due(lot, out, work),
-        Call::Send { session, telegram } => gateway.send(session, telegram, out, work),
-        Call::Announce { telegram, lot } => gateway.announce(telegram, lot, out, work),
-        Call::HangUp { session } => gateway.hang_up(session, out, work),
+impl<S: Sealer> Gateway<S> {
+    // One call, with the buffers that it is lent.
+    pub fn carry_out(
+        &mut self,
+        call: Call,
+        out: &mut [u8],
+        work: &mut [u8],
+    ) -> Result<Answer, Refusal>
+        ensures { Promise (meaning S.Sealer) (call_of call.entry out.old work.old) self.old.core self.new.core result (out_of call.entry out.new) (out_of call.entry work.new) }
+    {
+        match call {
+            Call::Arrive { frame, offer, lot } => self.arrive(frame, offer, lot, out, work),
+            Call::Pass { milliseconds } => Ok(self.pass(milliseconds)),
+            Call::Due { lot } => self.due(lot, out, work),
+            Call::Send { session, telegram } => self.send(session, telegram, out, work),
+            Call::Announce { telegram, lot } => self.announce(telegram, lot, out, work),
+            Call::HangUp { session } => self.hang_up(session, out, work),
+        }
     }
 }
 
@@ -76,7 +79,7 @@ fn step<'a, S: Sealer>(gateway: &mut Gateway<S>, call: Call<'a>) -> Event<'a>
     let before = gateway.timer();
     let mut out = [0; LARGEST_FRAME];
     let mut work = [0; LARGEST_FRAME];
-    let answer = carry_out::<S>(gateway, call, &mut out, &mut work);
+    let answer = gateway.carry_out(call, &mut out, &mut work);
     let after = gateway.timer();
     Event {
         call,
@@ -88,10 +91,26 @@ fn step<'a, S: Sealer>(gateway: &mut Gateway<S>, call: Call<'a>) -> Event<'a>
 }
 
 // Why there is no run.
-#[derive(Clone, Copy)]
+#[derive(Clone, Copy, PartialEq, Eq)]
 pub enum Stopped {
     Refused(Refusal),
     NoMemory,
+}
+
+impl From<Refusal> for Stopped {
+    ghost from_gives = { λ why stopped. stopped ≡ Refused why };
+
+    fn from(why: Refusal) -> Stopped {
+        Stopped::Refused(why)
+    }
+}
+
+impl<T: Drop> From<AllocFailed<T>> for Stopped {
+    ghost from_gives = { λ _ stopped. stopped ≡ NoMemory };
+
+    fn from(_failed: AllocFailed<T>) -> Stopped {
+        Stopped::NoMemory
+    }
 }
 
 // Carries out the calls, in their order, on a new gateway. The events are what came of each; where memory runs out there are none.
@@ -102,16 +121,10 @@ pub fn run<'a, S: Sealer>(
 ) -> Result<Vec<Event<'a>>, Stopped>
     ensures { EitherWay result (λ events. Ran (meaning S.Sealer) settings calls.now events.items) (Stops settings) }
 {
-    let mut gateway = match Gateway::<S>::make(settings) {
-        Ok(gateway) => gateway,
-        Err(why) => return Err(Stopped::Refused(why)),
-    };
+    let mut gateway = Gateway::<S>::make(settings)?;
     let mut events = Vec::new(heap);
     for call in calls {
-        let event = step::<S>(&mut gateway, *call);
-        if events.push(event).is_err() {
-            return Err(Stopped::NoMemory);
-        }
+        events.push(step::<S>(&mut gateway, *call))?;
     }
     Ok(events)
 }
