@@ -1,25 +1,40 @@
--- One turn of the loop over the rounds and of the loop over the round keys, and their ends. Assumes nothing.
-use Rattle.std.proofs.Common.{◌≡◌, ℕ, ◌+◌, ◌<◌, List, [], length, get_or, set, ap, ◌∙◌, add-one, arith, length-set}
-use Rattle.std.proofs.lemmas.List.Edits.{fill_by_more}
-use Rattle.std.proofs.lemmas.List.FromFn.{fill_by_all}
-use Rattle.cipher.specs.Aes.{round, last_round, add_round_key, after, rounds, next_key, round_constant, round_key, schedule}
+-- One turn of the loops over octets and over round keys, and the end of the latter. Assumes nothing.
+use Rattle.std.proofs.Common.{◌≡◌, ℕ, zero, suc, ◌+◌, ◌<◌, List, [], ◌++◌, length, get_or, set, map, replicate, take, drop, refl, sym, ◌∙◌, add-one, arith, length-set}
+use Rattle.std.proofs.lemmas.List.{length-append, length-map, length-take, length-drop, get_or_default, get_or-set_same}
+use Rattle.std.proofs.lemmas.List.Edits.{map_over_more}
+use Rattle.cipher.specs.Aes.{next_key, round_constant, round_key, schedule}
+use Rattle.cipher.specs.Sbox.{sub}
 
-pub round_more : (n : ℕ) (ks : List (List ℕ)) (s x y : List ℕ) → x ≡ after n ks s → y ≡ round x (get_or ks (n + 1) []) → y ≡ after (n + 1) ks s
-round_more n ks s x y e f = rw add-one (rw (e, add-one) at f)
+-- one more octet substituted; the first half is for `grind` to find it by
+pub sub_more : (i : ℕ) (xs : List ℕ) → i < length xs → (map sub (take i xs) ++ drop i xs ≡ map sub (take i xs) ++ drop i xs) × (map sub (take (i + 1) xs) ++ drop (i + 1) xs ≡ set (map sub (take i xs) ++ drop i xs) i (sub (get_or (map sub (take i xs) ++ drop i xs) i 0)))
+sub_more i xs h =
+    let s = map sub (take i xs) ++ drop i xs in
+    let long : i < length s = simp (length-append, length-map, length-take, length-drop) (omega arith) in
+    (refl, sym (map_over_more sub xs s i (get_or s i 0) h refl (get_or_default s i 0 (get_or s i 0) long)))
 
-pub rounds_all : (n : ℕ) (ks : List (List ℕ)) (b s x y : List ℕ) → n ≡ 9 → s ≡ add_round_key b (get_or ks 0 []) → x ≡ after n ks s → y ≡ last_round x (get_or ks 10 []) → y ≡ rounds ks b
-unfolding rounds
-rounds_all n ks b s x y n9 e f g = rw (f, n9, e) at g
+-- the round keys where n of them are made, and the key stands in the others' places
+unfoldable pub keyed : List ℕ → ℕ → List (List ℕ)
+keyed k zero = replicate 11 k
+keyed k (suc n) = set (keyed k n) (suc n) (round_key k (suc n))
 
--- the first n + 1 round keys stand
-abbrev pub Keyed : List ℕ → ℕ → List (List ℕ) → Type 0
-Keyed k n ks = (length ks ≡ 11) × ((i : ℕ) → i < n + 1 → get_or ks i [] ≡ round_key k i)
+length_keyed : (k : List ℕ) (n : ℕ) → length (keyed k n) ≡ 11
+unfolding keyed
+length_keyed k zero = refl
+length_keyed k (suc n) = length-set (keyed k n) (suc n) (round_key k (suc n)) ∙ length_keyed k n
 
-pub keys_more : (n : ℕ) (k : List ℕ) (ks : List (List ℕ)) (x : List ℕ) → n < 10 → Keyed k n ks → x ≡ next_key (round_constant n) (get_or ks n []) → Keyed k (n + 1) (set ks (n + 1) x)
-keys_more n k ks x h inv e =
-    let key : x ≡ round_key k (n + 1) = e ∙ ap (next_key (round_constant n)) (inv.1 n (omega arith)) ∙ rw add-one in
-    (length-set ks (n + 1) x ∙ inv.0, rw key (fill_by_more (round_key k) ks (n + 1) [] (omega arith) inv.1))
+key_at : (k : List ℕ) (n : ℕ) → n < 11 → get_or (keyed k n) n [] ≡ round_key k n
+unfolding keyed
+key_at k zero h = refl
+key_at k (suc n) h = get_or-set_same (keyed k n) (suc n) (round_key k (suc n)) [] (rw length_keyed h)
 
-pub keys_all : (n : ℕ) (k : List ℕ) (ks : List (List ℕ)) → n ≡ 10 → Keyed k n ks → ks ≡ schedule k
-unfolding schedule
-keys_all n k ks e inv = fill_by_all (round_key k) ks 11 [] inv.0 (λ i h. inv.1 i (omega arith))
+pub keys_none : (k : List ℕ) → keyed k 0 ≡ replicate 11 k
+unfolding keyed
+keys_none k = refl
+
+pub keys_more : (k : List ℕ) (n : ℕ) → n < 10 → (keyed k n ≡ keyed k n) × (keyed k (n + 1) ≡ set (keyed k n) (n + 1) (next_key (round_constant n) (get_or (keyed k n) n [])))
+unfolding keyed
+keys_more k n h = (refl, rw (add-one, key_at k n (omega arith)) refl)
+
+pub keys_all : (k : List ℕ) (n : ℕ) → n ≡ 10 → keyed k n ≡ schedule k
+unfolding keyed schedule
+keys_all k n e = rw e refl

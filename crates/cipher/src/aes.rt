@@ -26,7 +26,7 @@ ghost use Rattle.cipher.specs.Width.{aes_wide};
 ghost use Rattle.octets.specs.Runs.{xor};
 
 use crate::{Block, BlockCipher};
-use octets::runs::xor_into;
+use octets::runs::{part_at, xor_into};
 
 // row by row as the standard prints it
 const SBOX: &[u8; 256] = b"\
@@ -58,35 +58,24 @@ fn sub_octet(x: u8) -> u8
     SBOX[x as usize]
 }
 
-fn sub_at(s: &mut Block, at: usize)
-    requires { at < 16 }
-    ensures { s.new ≡ slice_set s.old at (sub (slice_index s.old at)) }
-{
-    s[at] = sub_octet(s[at]);
-}
-
+#[tactic(auto, using(std::proofs::lemmas::Grind::common_steps, crate::proofs::Rounds::sub_more))]
 pub fn sub_bytes(s: &mut Block)
     ensures { s.new ≡ sub_bytes s.old }
 {
-    for i in 0..16 {
-        sub_at(s, i);
+    for x in s.iter_mut() {
+        *x = sub_octet(*x);
     }
 }
 
 // The state with its rows shifted, column by column.
-fn shifted_rows(s: &Block) -> Block
-    ensures { result ≡ state (shifted s.now) }
-{
-    [
-        s[0], s[5], s[10], s[15], s[4], s[9], s[14], s[3], s[8], s[13], s[2], s[7], s[12], s[1],
-        s[6], s[11],
-    ]
-}
-
+#[tactic(auto, unfolding(crate::specs::Aes::shift_rows))]
 pub fn shift_rows(s: &mut Block)
     ensures { s.new ≡ shift_rows s.old }
 {
-    *s = shifted_rows(s);
+    *s = [
+        s[0], s[5], s[10], s[15], s[4], s[9], s[14], s[3], s[8], s[13], s[2], s[7], s[12], s[1],
+        s[6], s[11],
+    ];
 }
 
 // 2 times an octet in the field, without a branch: the octet is a secret.
@@ -99,7 +88,7 @@ fn twice(x: u8) -> u8
 fn thrice(x: u8) -> u8
     ensures { result ≡ product 3 x }
 {
-    (x << 1) ^ (x >> 7) * 0x1b ^ x
+    twice(x) ^ x
 }
 
 fn mixed_octet(a: u8, b: u8, c: u8, d: u8) -> u8
@@ -120,36 +109,23 @@ fn mixed_column(a: u8, b: u8, c: u8, d: u8) -> Word
 }
 
 // The state with its columns mixed.
-fn mixed_columns(s: &Block) -> Block
-    ensures { result ≡ state (mixed s.now) }
-{
-    let [a0, a1, a2, a3] = mixed_column(s[0], s[1], s[2], s[3]);
-    let [b0, b1, b2, b3] = mixed_column(s[4], s[5], s[6], s[7]);
-    let [c0, c1, c2, c3] = mixed_column(s[8], s[9], s[10], s[11]);
-    let [d0, d1, d2, d3] = mixed_column(s[12], s[13], s[14], s[15]);
-    [
-        a0, a1, a2, a3, b0, b1, b2, b3, c0, c1, c2, c3, d0, d1, d2, d3,
-    ]
-}
-
+#[tactic(auto, unfolding(crate::specs::Aes::mix_columns))]
 pub fn mix_columns(s: &mut Block)
     ensures { s.new ≡ mix_columns s.old }
 {
-    *s = mixed_columns(s);
+    let columns = [
+        mixed_column(s[0], s[1], s[2], s[3]),
+        mixed_column(s[4], s[5], s[6], s[7]),
+        mixed_column(s[8], s[9], s[10], s[11]),
+        mixed_column(s[12], s[13], s[14], s[15]),
+    ];
+    *s = *columns.as_flattened().as_array().unwrap();
 }
 
 pub fn add_round_key(s: &mut Block, key: &Block)
     ensures { s.new ≡ add_round_key s.old key.now }
 {
     xor_into(s, key);
-}
-
-// A round constant by its place, from 0 on.
-fn constant(n: usize) -> u8
-    requires { n < 10 }
-    ensures { result ≡ round_constant n }
-{
-    ROUND_CONSTANTS[n]
 }
 
 // Word 0 of the next round key.
@@ -169,55 +145,31 @@ fn xor_word(k: &Block, c: usize, before: Word) -> Word
     requires { c < 4 }
     ensures { result ≡ xor (word k.now c) before }
 {
-    let i = 4 * c;
-    [
-        k[i] ^ before[0],
-        k[i + 1] ^ before[1],
-        k[i + 2] ^ before[2],
-        k[i + 3] ^ before[3],
-    ]
+    let mut word = *part_at(k, 4 * c);
+    xor_into(&mut word, &before);
+    word
 }
 
-// The four words of the next round key.
-fn next_words(k: &Block, constant: u8) -> Block
-    ensures { result ≡ next_words constant k.now }
+// The round key after one, by its round constant.
+#[tactic(auto, unfolding(crate::specs::Aes::next_key))]
+fn next_key(k: &Block, constant: u8) -> Block
+    ensures { result ≡ next_key constant k.now }
 {
     let a = first_word(k, constant);
     let b = xor_word(k, 1, a);
     let c = xor_word(k, 2, b);
     let d = xor_word(k, 3, c);
-    let [a0, a1, a2, a3] = a;
-    let [b0, b1, b2, b3] = b;
-    let [c0, c1, c2, c3] = c;
-    let [d0, d1, d2, d3] = d;
-    [
-        a0, a1, a2, a3, b0, b1, b2, b3, c0, c1, c2, c3, d0, d1, d2, d3,
-    ]
-}
-
-fn next_key(k: &Block, constant: u8) -> Block
-    ensures { result ≡ next_key constant k.now }
-{
-    next_words(k, constant)
-}
-
-// Round key n + 1 from round key n.
-fn round_key_after(k: &Block, n: usize) -> Block
-    requires { n < 10 }
-    ensures { result ≡ next_key (round_constant n) k.now }
-{
-    next_key(k, constant(n))
+    *[a, b, c, d].as_flattened().as_array().unwrap()
 }
 
 // The eleven round keys of a key.
+#[tactic(auto, using(std::proofs::lemmas::Grind::common_steps, crate::proofs::Rounds::keys_none, crate::proofs::Rounds::keys_more, crate::proofs::Rounds::keys_all, crate::proofs::Tables::constant_at))]
 pub fn key_schedule(key: &Block) -> [Block; 11]
     ensures { result ≡ schedule key.now }
 {
-    let mut keys = [[0; 16]; 11];
-    keys[0] = *key;
-    for n in 0..10 {
-        let next = round_key_after(&keys[n], n);
-        keys[n + 1] = next;
+    let mut keys = [*key; 11];
+    for (n, constant) in ROUND_CONSTANTS.iter().enumerate() {
+        keys[n + 1] = next_key(&keys[n], *constant);
     }
     keys
 }
@@ -240,20 +192,22 @@ fn final_round(s: &mut Block, last: &Block)
 }
 
 // Enciphers a block by eleven round keys.
+#[tactic(auto, unfolding(crate::specs::Aes::rounds))]
 pub fn encipher_by(keys: &[Block; 11], block: &mut Block)
     ensures { block.new ≡ rounds keys.now block.old }
 {
+    // in a copy, since on the caller's block it takes half as long again; by indices, since the check stops at `[first, middle @ .., last]` here
     let mut s = *block;
     add_round_key(&mut s, &keys[0]);
-    for n in 0..9 {
-        full_round(&mut s, &keys[n + 1]);
+    for key in &keys[1..10] {
+        full_round(&mut s, key);
     }
     final_round(&mut s, &keys[10]);
     *block = s;
 }
 
 // AES-128, whose prepared key is the eleven round keys.
-pub struct Aes128 {}
+pub struct Aes128;
 
 #[derive(Drop)]
 pub struct RoundKeys {

@@ -5,7 +5,7 @@ ghost use Rattle.octets.specs.Runs.{xor};
 use crate::{Block, BlockCipher};
 use octets::runs::xor_into;
 
-pub struct Bench {}
+pub struct Bench;
 
 impl BlockCipher for Bench {
     type Prepared = Block;

@@ -11,7 +11,7 @@ ghost use Rattle.clock.specs.Times.{
   sent_by,
   started_at,
 };
-ghost use Rattle.rules.specs.GroupTime.{next_time, notice_serial, notice_tag, within};
+ghost use Rattle.rules.specs.GroupTime.{next_time, notice_serial, notice_tag, tag_of, within};
 ghost use Rattle.rules.specs.Limits.{numbers};
 
 use frames::stamps::Stamp;
@@ -30,6 +30,13 @@ pub struct Group {
     pub wanted: Option<(u64, u16)>,
     // milliseconds until a timer notify is due
     pub countdown: u32,
+}
+
+// The tag that a lot makes.
+pub fn tag_of(lot: u32) -> u16
+    ensures { result ≡ tag_of lot }
+{
+    (lot % 0x1_0000) as u16
 }
 
 impl Group {
@@ -170,6 +177,6 @@ impl Group {
     pub fn notice_tag(&self, lot: u32) -> u16
         ensures { result ≡ notice_tag self.now.wanted lot }
     {
-        self.wanted.map_or((lot % 0x1_0000) as u16, |(_, tag)| tag)
+        self.wanted.map_or(tag_of(lot), |(_, tag)| tag)
     }
 }

@@ -42,13 +42,6 @@ middle h c m n k lh lc =
 end : (h c m : List ℕ) (n k : ℕ) → length h + length c ≡ k → length m ≡ n → part n k (h ++ c ++ m) ≡ m
 end h c m n k lk lm = ap (take n) (drop_at (h ++ c) m k (length-append h c ∙ lk)) ∙ take_all n m (omega arith)
 
-same_wrapper : (s s' n n' e e' t t' : ℕ) (a x c c' m m' : List ℕ) → s ≡ s' → n ≡ n' → e ≡ e' → t ≡ t' → c ≡ c' → m ≡ m'
-    → a_wrapper s n e t a x c m ≡ a_wrapper s' n' e' t' a x c' m'
-same_wrapper s s' n n' e e' t t' a x c c' m m' es en ee et ec em = cc
-
-same_notice : (n n' e e' t t' : ℕ) (a x m m' : List ℕ) → n ≡ n' → e ≡ e' → t ≡ t' → m ≡ m' → a_notice n e t a x m ≡ a_notice n' e' t' a x m'
-same_notice n n' e e' t t' a x m m' en ee et em = cc
-
 -- a wrapper of any stated size that is its own
 wrapper_back : (z session count serial tag : ℕ) (c m : List ℕ)
     → z ≡ length c + wrapper_overhead → session < 2 ^ 16 → count < 2 ^ 48 → serial < 2 ^ 48 → tag < 2 ^ 16
@@ -63,7 +56,7 @@ wrapper_back z session count serial tag c m ez hs hc he ht low high lm =
     let ec = middle h c m (length f - 38) 22 refl (omega arith) in
     let em = end h c m 16 (length f - 16) (omega arith) lm in
     reads_wrapper f st (omega arith) (omega arith)
-    ∙ ap Ok (same_wrapper _ session _ count _ serial _ tag _ _ _ c _ m (two_back session hs) (six_back count hc) (six_back serial he) (two_back tag ht) ec em)
+    ∙ rw (two_back session hs, six_back count hc, six_back serial he, two_back tag ht, ec, em)
 
 pub wrapper_read_back : law.WrapperReadBack
 wrapper_read_back session count serial tag c m = wrapper_back (length c + wrapper_overhead) session count serial tag c m refl
@@ -91,7 +84,7 @@ notice_read_back time serial tag m hn he ht lm =
     let lf : length f ≡ 36 = length-append (notice_lead ++ nonce time serial tag) m ∙ omega arith in
     let st : stated_kind f ≡ Some 0x0955 = stated f 36 0x0955 lf (omega arith) refl refl refl refl in
     let em = end notice_lead (nonce time serial tag) m 16 20 refl lm in
-    reads_notice f st lf ∙ ap Ok (same_notice _ time _ serial _ tag _ _ _ m (six_back time hn) (six_back serial he) (two_back tag ht) em)
+    reads_notice f st lf ∙ rw (six_back time hn, six_back serial he, two_back tag ht, em)
 
 pub response_read_back : law.ResponseReadBack
 unfolding response_lead

@@ -52,6 +52,7 @@ fn mac_of_exchange<S: Sealer>(key: &Block, lead: &[u8; 8], x: &[u8; 32], y: &[u8
     S::seal(key, &[0; 14], &exchange_octets(lead, x, y), &mut [])
 }
 
+// Here and below x and y stay two parameters: they come from two places, the request and the offer, and a struct of both would only be taken apart.
 // A session response, under the device code, put to the front of the output if that has the room.
 pub fn seal_response<S: Sealer>(
     key: &Block,
