@@ -58,7 +58,7 @@ fn sub_octet(x: u8) -> u8
     SBOX[x as usize]
 }
 
-#[tactic(auto, using(std::proofs::lemmas::Grind::common_steps, crate::proofs::Rounds::sub_more))]
+#[tactic(auto, using(crate::proofs::Rounds::sub_more))]
 pub fn sub_bytes(s: &mut Block)
     ensures { s.new ≡ sub_bytes s.old }
 {
@@ -163,7 +163,7 @@ fn next_key(k: &Block, constant: u8) -> Block
 }
 
 // The eleven round keys of a key.
-#[tactic(auto, using(std::proofs::lemmas::Grind::common_steps, crate::proofs::Rounds::keys_none, crate::proofs::Rounds::keys_more, crate::proofs::Rounds::keys_all, crate::proofs::Tables::constant_at))]
+#[tactic(auto, using(crate::proofs::Rounds::keys_none, crate::proofs::Rounds::keys_more, crate::proofs::Rounds::keys_all, crate::proofs::Tables::constant_at))]
 pub fn key_schedule(key: &Block) -> [Block; 11]
     ensures { result ≡ schedule key.now }
 {

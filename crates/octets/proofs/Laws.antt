@@ -1,5 +1,6 @@
 -- The laws of the definitions. Assumes nothing.
 use Rattle.std.proofs.Common.{◌≡◌, ℕ, zero, suc, ◌+◌, ◌*◌, ◌/◌, ◌%◌, ◌^◌, ◌<◌, ◌≤◌, List, [], ◌∷◌, length, get_or, take, drop, sym, refl, ap, ◌∙◌, mul_assoc, mul_comm, pow-suc, arith, pow-add}
+use Rattle.std.proofs.Math.Nat.{one-le-pow}
 use native.Mathlib.Nat.{pow-succ', add-mul-div_right, add-mul-mod_self_right}
 use lib.Arith.{mod-mul}
 use lib.Bits.{xor_assoc, xor_self, xor_zero_r, xor_comm, xor_lt}
@@ -89,8 +90,7 @@ over_keeps_after at ys xs h =
     ∙ drop-drop (length ys) at xs
 
 places_pos : (n : ℕ) → 0 < 256 ^ n
-places_pos zero = omega arith
-places_pos (suc n) = rw pow-suc (omega (arith, places_pos n))
+places_pos n = one-le-pow n 256 (omega arith)
 
 pub value_below : law.ValueBelow
 value_below [] o = omega arith

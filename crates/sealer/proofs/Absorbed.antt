@@ -4,6 +4,7 @@ use lib.ListN.{length-replicate}
 use lib.Bits.{bit_xor, xor_zero_r}
 use Rattle.std.proofs.lemmas.List.{take-append-drop, take-append-le, drop-append-le, length-take-le, take_all, nil_from_length}
 use Rattle.std.proofs.lemmas.Bool.{cases_lt, cond-true, cond-false, eq-eqb, ne_eqb}
+use Rattle.octets.proofs.Xors.{xor_none}
 use Rattle.octets.specs.Runs.{xor}
 use Rattle.sealer.specs.Absorbing.{finish}
 use Rattle.sealer.specs.Mac.{blocks, chained, padded, raw_mac}
@@ -33,10 +34,7 @@ xor_zeros zero (y ∷ s) = refl
 xor_zeros (suc n) (y ∷ s) = rw (xor_zero_r, xor_zeros n s)
 
 xor_padded : (s b : List ℕ) (n : ℕ) → xor s (b ++ replicate n 0) ≡ xor s b
-xor_padded s [] n = xor_zeros n s ∙ nil s where
-  nil : (s : List ℕ) → s ≡ xor s []
-  nil [] = refl
-  nil (y ∷ s) = refl
+xor_padded s [] n = xor_zeros n s ∙ sym (xor_none s)
 xor_padded [] (x ∷ b) n = refl
 xor_padded (y ∷ s) (x ∷ b) n = ap (λ (l : List ℕ). bit_xor y x ∷ l) (xor_padded s b n)
 

@@ -1,8 +1,9 @@
 -- Two runs compared octet by octet, with the decision at the end. Assumes nothing.
-use Rattle.std.proofs.Common.{◌≡◌, ℕ, ◌+◌, ◌<◌, ◌≤◌, Bool, true, false, ◌&&◌, eqb, List, length, get_or, drop, sym, refl, ◌∙◌, ⊎_elim, arith}
+use Rattle.std.proofs.Common.{◌≡◌, ℕ, Bool, true, false, ◌&&◌, eqb, List, [], ◌∷◌, length, sym, refl, ◌∙◌, ⊎_elim, arith}
 use lib.Bits.{bit_or, bit_xor, or_add_and, xor_add_and, and_le_l, and_le_r, xor_self}
-use Rattle.std.proofs.lemmas.List.{drop_all, drop_more}
+use Rattle.std.proofs.Math.Bool.{and_assoc, and-true}
 use Rattle.std.proofs.lemmas.Bool.{and_left, and_right, cases_eq, eq-eqb, ne_eqb}
+use Rattle.std.specs.List.{fold, zip}
 use Rattle.sealer.specs.Sealing.{same}
 
 or_none : (a b : ℕ) → bit_or a b ≡ 0 → (a ≡ 0) × (b ≡ 0)
@@ -20,22 +21,11 @@ differ_none d x y = ⊎_elim
     (λ (p : d ≡ 0 → ⊥). ne_eqb _ 0 (λ e. p (or_none d (bit_xor x y) e).0) ∙ sym (and_left (eqb d 0) (eqb x y) (ne_eqb d 0 p)))
     (cases_eq d 0)
 
-and_assoc : (a b c : Bool) → (a && b) && c ≡ a && (b && c)
-and_assoc true b c = refl
-and_assoc false b c = refl
+folded : (d : ℕ) (a b : List ℕ) → length a ≡ length b → eqb (fold (λ d p. bit_or d (bit_xor p.0 p.1)) d (zip a b)) 0 ≡ eqb d 0 && same a b
+folded d [] [] e = sym (and-true (eqb d 0))
+folded d [] (y ∷ b) e = absurd (omega arith)
+folded d (x ∷ a) [] e = absurd (omega arith)
+folded d (x ∷ a) (y ∷ b) e = folded (bit_or d (bit_xor x y)) a b (omega arith) ∙ rw (differ_none d x y) (and_assoc (eqb d 0) (eqb x y) (same a b))
 
-and_true : (a : Bool) → a && true ≡ a
-and_true true = refl
-and_true false = refl
-
--- no difference so far, and the same from place i on
-abbrev pub same_from : ℕ → ℕ → List ℕ → List ℕ → Bool
-same_from i d a b = eqb d 0 && same (drop i a) (drop i b)
-
-pub same_more : (i d : ℕ) (a b : List ℕ) → i < length a → i < length b → same_from (i + 1) (bit_or d (bit_xor (get_or a i 0) (get_or b i 0))) a b ≡ same_from i d a b
-same_more i d a b h k =
-    rw (drop_more a i 0 h, drop_more b i 0 k, differ_none d (get_or a i 0) (get_or b i 0))
-    (and_assoc (eqb d 0) (eqb (get_or a i 0) (get_or b i 0)) (same (drop (i + 1) a) (drop (i + 1) b)))
-
-pub same_all : (i d : ℕ) (a b : List ℕ) → length a ≤ i → length b ≤ i → same_from i d a b ≡ eqb d 0
-same_all i d a b h k = rw (drop_all i a h, drop_all i b k) (and_true (eqb d 0))
+pub same_folded : (a b : List ℕ) → length a ≡ length b → same a b ≡ eqb (fold (λ d p. bit_or d (bit_xor p.0 p.1)) 0 (zip a b)) 0
+same_folded a b e = sym (folded 0 a b e)

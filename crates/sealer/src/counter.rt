@@ -26,32 +26,17 @@ pub fn mask_block<C: BlockCipher>(prepared: &C::Prepared, nonce: &Nonce, i: u8) 
     block
 }
 
-// What masks a part of the text, counted from 0: counter block 0 is the MAC's.
-fn text_block<C: BlockCipher>(prepared: &C::Prepared, nonce: &Nonce, part: u8) -> Block
-    requires { part < 255 }
-    ensures { result ≡ C.does prepared.now (counter nonce.now (part + 1)) }
-{
-    mask_block::<C>(prepared, nonce, part + 1)
-}
-
-// Masks one part: sixteen octets, or as many as are left.
-fn mask_part<C: BlockCipher>(prepared: &C::Prepared, nonce: &Nonce, text: &mut [u8], part: u8)
-    requires { (16 * part ≤ length text.old) × (part < 255) }
-    ensures after { text.new ≡ take (16 * part) text.old ++ xor (drop (16 * part) text.old) (C.does prepared.now (counter nonce.now (part + 1))) }
-    ensures wide { length (C.does prepared.now (counter nonce.now (part + 1))) ≡ 16 }
-{
-    let block = text_block::<C>(prepared, nonce, part);
-    let at = 16 * part as usize;
-    xor_into(&mut text[at..], &block);
-}
-
 // Masks a text in place; a masked text is unmasked.
+#[tactic(auto, using(std::proofs::lemmas::Grind::common_steps, octets::proofs::Xors::xor_none, crate::proofs::Masking::mask_more), unfolding(crate::specs::Counter::masked))]
 pub fn mask<C: BlockCipher>(prepared: &C::Prepared, nonce: &Nonce, text: &mut [u8])
     requires { length text.old ≤ largest_telegram }
     ensures { text.new ≡ masked (C.does prepared.now) nonce.now text.old }
 {
-    let parts = ((text.len() + 15) / 16) as u8;
+    // by place: of what is written through chunks_mut a proof knows nothing afterwards
+    let parts = text.len().div_ceil(16) as u8;
     for part in 0..parts {
-        mask_part::<C>(prepared, nonce, text, part);
+        let block = mask_block::<C>(prepared, nonce, part + 1);
+        let at = 16 * part as usize;
+        xor_into(&mut text[at..], &block);
     }
 }

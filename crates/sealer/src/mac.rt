@@ -1,5 +1,6 @@
 // The MAC: CBC over what it covers, masked by the enciphered counter block 0.
 ghost use Rattle.std.specs.Prelude.{◌≡◌, ℕ, ◌<◌, List, [], ◌∷◌, ◌++◌, length, replicate, if◌then◌else◌, bit_or, bit_xor};
+ghost use Rattle.std.specs.List.{fold, zip};
 ghost use Rattle.octets.specs.Runs.{xor};
 ghost use Rattle.octets.specs.Numbers.{octets_of};
 ghost use Rattle.sealer.specs.Absorbing.{finish};
@@ -44,14 +45,13 @@ impl Chain {
     }
 
     // A block that is begun is filled up with zeros, which XOR nothing in.
-    fn finish<C: BlockCipher>(self, prepared: &C::Prepared) -> Block
+    fn finish<C: BlockCipher>(mut self, prepared: &C::Prepared) -> Block
         ensures { result ≡ finish (C.does prepared.now) self.state self.at [] }
     {
-        let mut state = self.state;
         if self.at != 0 {
-            C::encipher(prepared, &mut state);
+            C::encipher(prepared, &mut self.state);
         }
-        state
+        self.state
     }
 }
 
@@ -82,15 +82,7 @@ fn raw<C: BlockCipher>(
     chain.finish::<C>(prepared)
 }
 
-// A raw MAC under the mask that its nonce makes.
-fn masked_mac<C: BlockCipher>(prepared: &C::Prepared, nonce: &Nonce, raw: &Block) -> Block
-    ensures { result ≡ xor raw.now (C.does prepared.now (counter nonce.now 0)) }
-{
-    let mut mac = *raw;
-    xor_into(&mut mac, &mask_block::<C>(prepared, nonce, 0));
-    mac
-}
-
+#[tactic(auto, unfolding(crate::specs::Mac::mac_of))]
 pub fn mac<C: BlockCipher>(
     prepared: &C::Prepared,
     nonce: &Nonce,
@@ -99,26 +91,26 @@ pub fn mac<C: BlockCipher>(
 ) -> Block
     ensures { result ≡ mac_of (C.does prepared.now) nonce.now associated.now telegram.now }
 {
-    let raw = raw::<C>(prepared, nonce, associated, telegram);
-    masked_mac::<C>(prepared, nonce, &raw)
+    let mut mac = raw::<C>(prepared, nonce, associated, telegram);
+    xor_into(&mut mac, &mask_block::<C>(prepared, nonce, 0));
+    mac
 }
 
-// The bits in which two octets differ, added to those found so far.
-fn differ(so_far: u8, x: u8, y: u8) -> u8
-    ensures { result ≡ bit_or so_far (bit_xor x y) }
+// The bits in which two MACs differ, over all sixteen octets.
+fn difference(made: &Block, given: &Block) -> u8
+    ensures { result ≡ fold (λ d p. bit_or d (bit_xor p.0 p.1)) 0 (zip made.now given.now) }
 {
-    so_far | x ^ y
+    made.iter()
+        .zip(given)
+        .fold(0, |so_far, (x, y)| so_far | x ^ y)
 }
 
 // Whether two MACs are the same. It looks at all sixteen octets before it decides.
+#[tactic(auto, using(crate::proofs::Sames::same_folded))]
 pub fn same_mac(made: &Block, given: &Block) -> bool
     ensures { result ≡ same made.now given.now }
 {
-    let mut difference = 0;
-    for i in 0..16 {
-        difference = differ(difference, made[i], given[i]);
-    }
-    difference == 0
+    difference(made, given) == 0
 }
 
 // Keeps a telegram whose MAC is the one given, and clears any other.
