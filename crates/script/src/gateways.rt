@@ -4,7 +4,6 @@ use cipher::aes::Aes128;
 use cipher::bench::Bench;
 use gateway::{Call, Gateway};
 use rules::answers::{Answer, Refusal};
-use sealer::Sealer;
 use sealer::sealers::{Knx, Reading};
 
 #[derive(Drop)]
@@ -18,16 +17,16 @@ pub enum AnyGateway {
 impl AnyGateway {
     pub fn make(given: &Given) -> Result<AnyGateway, Refusal> {
         let settings = given.settings;
-        match (given.cipher, given.sealing) {
-            (Cipher::Aes, Sealing::Knx) => Gateway::make(settings).map(AnyGateway::Knx),
-            (Cipher::Aes, Sealing::Reading) => Gateway::make(settings).map(AnyGateway::Reading),
-            (Cipher::Bench, Sealing::Knx) => Gateway::make(settings).map(AnyGateway::BenchKnx),
-            (Cipher::Bench, Sealing::Reading) => Gateway::make(settings).map(
-                AnyGateway::BenchReading,
-            ),
-        }
+        let made = match (given.cipher, given.sealing) {
+            (Cipher::Aes, Sealing::Knx) => AnyGateway::Knx(Gateway::make(settings)?),
+            (Cipher::Aes, Sealing::Reading) => AnyGateway::Reading(Gateway::make(settings)?),
+            (Cipher::Bench, Sealing::Knx) => AnyGateway::BenchKnx(Gateway::make(settings)?),
+            (Cipher::Bench, Sealing::Reading) => AnyGateway::BenchReading(Gateway::make(settings)?),
+        };
+        Ok(made)
     }
 
+    // Four arms alike, each at a type of its own: a gateway lent as a `dyn` would need a trait and an impl beside them.
     pub fn carry_out(
         &mut self,
         call: Call,
@@ -35,10 +34,10 @@ impl AnyGateway {
         work: &mut [u8],
     ) -> Result<Answer, Refusal> {
         match self {
-            AnyGateway::Knx(gateway) => carry_out(gateway, call, out, work),
-            AnyGateway::Reading(gateway) => carry_out(gateway, call, out, work),
-            AnyGateway::BenchKnx(gateway) => carry_out(gateway, call, out, work),
-            AnyGateway::BenchReading(gateway) => carry_out(gateway, call, out, work),
+            AnyGateway::Knx(gateway) => gateway.carry_out(call, out, work),
+            AnyGateway::Reading(gateway) => gateway.carry_out(call, out, work),
+            AnyGateway::BenchKnx(gateway) => gateway.carry_out(call, out, work),
+            AnyGateway::BenchReading(gateway) => gateway.carry_out(call, out, work),
         }
     }
 
@@ -49,21 +48,5 @@ impl AnyGateway {
             AnyGateway::BenchKnx(gateway) => gateway.timer(),
             AnyGateway::BenchReading(gateway) => gateway.timer(),
         }
-    }
-}
-
-fn carry_out<S: Sealer>(
-    gateway: &mut Gateway<S>,
-    call: Call,
-    out: &mut [u8],
-    work: &mut [u8],
-) -> Result<Answer, Refusal> {
-    match call {
-        Call::Arrive { frame, offer, lot } => gateway.arrive(frame, offer, lot, out, work),
-        Call::Pass { milliseconds } => Ok(gateway.pass(milliseconds)),
-        Call::Due { lot } => gateway.due(lot, out, work),
-        Call::Send { session, telegram } => gateway.send(session, telegram, out, work),
-        Call::Announce { telegram, lot } => gateway.announce(telegram, lot, out, work),
-        Call::HangUp { session } => gateway.hang_up(session, out, work),
     }
 }

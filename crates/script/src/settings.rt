@@ -4,8 +4,9 @@ use cipher::Block;
 use rules::settings::{Settings, User};
 use std::str::FromStr;
 
-#[derive(Clone, Copy)]
+#[derive(Clone, Copy, Default)]
 pub enum Cipher {
+    #[default]
     Aes,
     Bench,
 }
@@ -22,8 +23,9 @@ impl FromStr for Cipher {
     }
 }
 
-#[derive(Clone, Copy)]
+#[derive(Clone, Copy, Default)]
 pub enum Sealing {
+    #[default]
     Knx,
     Reading,
 }
@@ -54,34 +56,12 @@ pub enum Setting {
     Sync(u32),
 }
 
-#[derive(Clone, Copy)]
+// The default stands where a script gives nothing.
+#[derive(Clone, Copy, Default)]
 pub struct Given {
     pub cipher: Cipher,
     pub sealing: Sealing,
     pub settings: Settings,
-}
-
-// What stands where a script gives nothing.
-impl Default for Given {
-    fn default() -> Given {
-        let absent = User {
-            present: false,
-            hash: [0; 16],
-        };
-        Given {
-            cipher: Cipher::Aes,
-            sealing: Sealing::Knx,
-            settings: Settings {
-                serial: [0; 6],
-                device: [0; 16],
-                group: [0; 16],
-                users: [absent; 8],
-                start: 0,
-                latency: 0,
-                sync: 0,
-            },
-        }
-    }
 }
 
 impl Given {
