@@ -41,7 +41,7 @@ time_above : (t : ℕ) (o : Option ℕ) (j : ℕ) → Reached o j → j < next_t
 time_above t None j r = absurd r
 time_above t (Some x) j r = omega arith
 
-is_none : (o : Option Session) → not (is_some o) ≡ true → o ≡ None
+pub is_none : (o : Option Session) → not (is_some o) ≡ true → o ≡ None
 is_none None e = refl
 is_none (Some s) e = absurd (both_ways false refl e)
 

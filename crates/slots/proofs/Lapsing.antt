@@ -1,6 +1,6 @@
 -- The lapsed row with the smallest number is the session that the rules pick. Assumes nothing.
 use Rattle.std.proofs.Common.{◌≡◌, ℕ, zero, suc, ◌+◌, ◌<◌, ◌≤◌, Bool, true, false, not, List, [], ◌∷◌, length, Some, None, Option, sym, refl, ap, ◌∙◌, subst, ⊎_elim, arith, IfSome, MatchOption}
-use Rattle.std.proofs.lemmas.Bool.{and_parts, both_ways, cases_eq, cond-false, cond-true, ltb-false, ltb-true}
+use Rattle.std.proofs.lemmas.Bool.{and_parts, false_from_ne_true, both_ways, cases_eq, cond-false, cond-true, ltb-false, ltb-true}
 use Rattle.std.proofs.lemmas.Bool.Decides.{nat_tests}
 use Rattle.rules.specs.Limits.{session_numbers}
 use Rattle.rules.specs.Sessions.{first, is_lapsed, lapsed}
@@ -87,20 +87,16 @@ stands (r ∷ rs) n y =
 lapsed_is : (r : Slot) → lapsed_row r ≡ true → (0 < r.number) × (lapsed (session_of r) ≡ true)
 lapsed_is r y = let parts = and_parts (not (is_free r)) (lapsed (session_of r)) y in (let used : not (is_free r) ≡ true = parts.0 in grind (arith, nat_tests), parts.1)
 
-not_true_false : (b : Bool) → (b ≡ true → ⊥) → b ≡ false
-not_true_false true f = absurd (f refl)
-not_true_false false f = refl
-
 from_least : (rows : List Slot) (o : Option ℕ) → Distinct rows → IfSome o (λ j. (row rows j).number < session_numbers) → Least rows (length rows) o → Lapses rows o
 from_least rows None d small l =
-    first_none session_numbers 0 _ (λ k. not_true_false _ (λ y. let s = stands rows k y in both_ways _ (l s.at s.within) s.lapsed_there))
+    first_none session_numbers 0 _ (λ k. false_from_ne_true _ (λ y. let s = stands rows k y in both_ways _ (l s.at s.within) s.lapsed_there))
 from_least rows (Some j) d small l =
     let n = (row rows j).number in
     let is = lapsed_is (row rows j) l.1 in
     let finds = look_row rows n j d l.0 is.0 refl in
     record {
       is = first_some session_numbers 0 n _ (omega arith) (omega (arith, small)) (ap is_lapsed finds ∙ is.1)
-          (λ k lt. not_true_false _ (λ y. let s = stands rows k y in let most = l.2 s.at s.within s.lapsed_there in let which = s.number in absurd (omega arith)));
+          (λ k lt. false_from_ne_true _ (λ y. let s = stands rows k y in let most = l.2 s.at s.within s.lapsed_there in let which = s.number in absurd (omega arith)));
       found = record { within = l.0; some = is.0; number = refl; session = finds };
     }
 

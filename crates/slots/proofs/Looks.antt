@@ -1,9 +1,11 @@
 -- One row written, as one session changed. Assumes nothing.
 use Rattle.std.proofs.Common.{◌≡◌, ℕ, zero, suc, ◌+◌, ◌<◌, ◌≤◌, Bool, true, false, cond, not, eqb, List, [], ◌∷◌, map, length, set, is_some, Some, None, Option, sym, refl, ap, ◌∙◌, subst, ⊎_elim, MatchOption, le_of_suc-le-suc, arith, length-set}
 use Rattle.std.proofs.lemmas.List.{get_or-set_same, set-set}
+use Rattle.std.proofs.lemmas.Option.{none-some}
 use Rattle.std.proofs.lemmas.Bool.{and_from, and_parts, both_ways, cases_eq, cond-false, eq-eqb, eqb-true, ne_eqb}
 use Rattle.std.proofs.lemmas.Bool.Decides.{nat_tests}
 use Rattle.std.specs.List.{AllWithin, HoldsAt}
+use Rattle.rules.proofs.Others.{is_none}
 use Rattle.rules.specs.Model.{Session, held_after}
 use Rattle.rules.specs.Sessions.{all_waited}
 use Rattle.slots.specs.Rows.{Distinct, distinct, free_row, has, held_rows, is_free, look_up, no_row, row, session_of, waited_row}
@@ -79,19 +81,12 @@ frees rs (Some i) f = let h = f.1 no_row in record { within = f.0; free = eqb-tr
 
 -- ROWS APART
 
-none_apart : (o : Option Session) → not (is_some o) ≡ true → o ≡ None
-none_apart None e = refl
-none_apart (Some s) e = absurd (both_ways false refl e)
-
 apart_none : (o : Option Session) → o ≡ None → not (is_some o) ≡ true
 apart_none o e = rw e refl
 
-pub some_none : (s : Session) → Some s ≡ None → ⊥
-some_none s e = let z : ◌≡◌ {A = ℕ} 0 1 = cc in omega arith
-
 -- what rows that are apart say of the first one
 pub apart_here : (r : Slot) (rs : List Slot) → Distinct (r ∷ rs) → look_up rs r.number ≡ None
-apart_here r rs d = none_apart _ (and_parts (not (is_some (look_up rs r.number))) (distinct rs) d).0
+apart_here r rs d = is_none _ (and_parts (not (is_some (look_up rs r.number))) (distinct rs) d).0
 
 pub apart_rest : (r : Slot) (rs : List Slot) → Distinct (r ∷ rs) → Distinct rs
 apart_rest r rs d = (and_parts (not (is_some (look_up rs r.number))) (distinct rs) d).1
@@ -110,7 +105,7 @@ look_row (r ∷ rs) n zero d lt p e = rw (has_from n r p e) refl
 look_row (r ∷ rs) n (suc i) d lt p e =
     let there = look_row rs n i (apart_rest r rs d) (le_of_suc-le-suc lt) p e in
     by_test (has n r) _
-    (λ h. absurd (some_none _ (sym there ∙ sym (ap (look_up rs) (has_is n r h).1) ∙ apart_here r rs d)))
+    (λ h. absurd (none-some _ (sym (sym there ∙ sym (ap (look_up rs) (has_is n r h).1) ∙ apart_here r rs d))))
     (λ h. rw h there)
 
 -- a write changes no look_up of a number that neither row has
@@ -130,7 +125,7 @@ look_cleared (r ∷ rs) zero f z d lt = rw (has_free r.number f z) (apart_here r
 look_cleared (r ∷ rs) (suc i) f z d lt =
     let n = (row rs i).number in
     by_test (has n r) _
-    (λ h. absurd (some_none _ (sym (look_row rs n i (apart_rest r rs d) (le_of_suc-le-suc lt) (has_is n r h).0 refl) ∙ sym (ap (look_up rs) (has_is n r h).1) ∙ apart_here r rs d)))
+    (λ h. absurd (none-some _ (sym (sym (look_row rs n i (apart_rest r rs d) (le_of_suc-le-suc lt) (has_is n r h).0 refl) ∙ sym (ap (look_up rs) (has_is n r h).1) ∙ apart_here r rs d))))
     (λ h. rw h (look_cleared rs i f z (apart_rest r rs d) (le_of_suc-le-suc lt)))
 
 -- a choice between what both ways give
@@ -179,7 +174,7 @@ cleared rs rs' i lt d e =
 
 -- what finds nothing finds nothing in the rest, and the first row has another number
 none_rest : (x : Slot) (rs : List Slot) (n : ℕ) → look_up (x ∷ rs) n ≡ None → (has n x ≡ false) × (look_up rs n ≡ None)
-none_rest x rs n e = by_test (has n x) _ (λ h. absurd (some_none _ (rw h at e))) (λ h. (h, rw h at e))
+none_rest x rs n e = by_test (has n x) _ (λ h. absurd (none-some _ (sym (rw h at e)))) (λ h. (h, rw h at e))
 
 look_filled : (rs : List Slot) (i : ℕ) (r : Slot) → 0 < r.number → look_up rs r.number ≡ None → i < length rs → look_up (set rs i r) r.number ≡ Some (session_of r)
 look_filled [] i r p e lt = absurd (omega arith)

@@ -1,10 +1,11 @@
 -- Rows as a gateway's sessions. Assumes nothing.
 use Rattle.std.proofs.Common.{◌≡◌, ℕ, zero, suc, ◌<◌, false, List, [], ◌∷◌, length, sym, refl, ap, ◌∙◌, le_of_suc-le-suc, arith}
+use Rattle.std.proofs.lemmas.Option.{none-some}
 use Rattle.rules.specs.Model.{new}
 use Rattle.slots.specs.Laws.{DistinctIsApart, EmptyIsTheRule, LapsedIsTheRule, PutsIsTheRule, WaitsIsTheRule, with_sessions}
 use Rattle.slots.specs.Rows.{Distinct, has, row}
 use Rattle.slots.specs.declared.slot.Slot.{Slot}
-use Rattle.slots.proofs.Looks.{apart_cons, apart_here, apart_rest, by_test, has_is, look_none, look_row, some_none}
+use Rattle.slots.proofs.Looks.{apart_cons, apart_here, apart_rest, by_test, has_is, look_none, look_row}
 
 pub empty_is_the_rule : EmptyIsTheRule
 empty_is_the_rule set rows e = λ j. with_sessions (new set) (e.held j) (λ m. e.finds m j)
@@ -25,8 +26,8 @@ Single rows = (i j : ℕ) → i < length rows → j < length rows → 0 < (row r
 single : (rows : List Slot) → Distinct rows → Single rows
 single [] d i j li lj p e = absurd (omega arith)
 single (r ∷ rs) d zero zero li lj p e = refl
-single (r ∷ rs) d zero (suc j) li lj p e = absurd (some_none _ (sym (look_row rs r.number j (apart_rest r rs d) (le_of_suc-le-suc lj) p (sym e)) ∙ apart_here r rs d))
-single (r ∷ rs) d (suc i) zero li lj p e = absurd (some_none _ (sym (look_row rs r.number i (apart_rest r rs d) (le_of_suc-le-suc li) (omega arith) e) ∙ apart_here r rs d))
+single (r ∷ rs) d zero (suc j) li lj p e = absurd (none-some _ (sym (sym (look_row rs r.number j (apart_rest r rs d) (le_of_suc-le-suc lj) p (sym e)) ∙ apart_here r rs d)))
+single (r ∷ rs) d (suc i) zero li lj p e = absurd (none-some _ (sym (sym (look_row rs r.number i (apart_rest r rs d) (le_of_suc-le-suc li) (omega arith) e) ∙ apart_here r rs d)))
 single (r ∷ rs) d (suc i) (suc j) li lj p e = ap suc (single rs (apart_rest r rs d) i j (le_of_suc-le-suc li) (le_of_suc-le-suc lj) p e)
 
 alone : (r : Slot) (rs : List Slot) → Single (r ∷ rs) → (k : ℕ) → k < length rs → has r.number (row rs k) ≡ false

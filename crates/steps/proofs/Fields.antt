@@ -1,9 +1,7 @@
 -- Facts about a gateway's fields. Assumes nothing.
-use Rattle.std.proofs.Common.{◌≡◌, ℕ, ◌≤◌, List, Some, None, Option, Result, sym, refl, ap, ◌∙◌, subst, arith}
+use Rattle.std.proofs.Common.{◌≡◌, ℕ, List, Some, None, Option, Result, sym, refl, ap, ◌∙◌, subst}
 use Rattle.octets.specs.Runs.{over}
-use Rattle.clock.specs.Times.{Small}
 use Rattle.rules.specs.Calls.{Step, due}
-use Rattle.rules.specs.Limits.{last_time}
 use Rattle.rules.specs.Meaning.{Meaning}
 use Rattle.rules.specs.Rules.{with_room}
 use Rattle.rules.specs.declared.answers.Answer.{Answer}
@@ -23,10 +21,6 @@ pub first_lapsed_at : (c : Core) (o : Option Place) → rows.Lapses c.table.rows
 unfolding next_lapsed
 first_lapsed_at c None l = sym (lapsed_is_the_rule (model c) c.table.rows) ∙ l
 first_lapsed_at c (Some at) l = record { is = sym (lapsed_is_the_rule (model c) c.table.rows) ∙ l.is; session = l.found.session }
-
-pub small_sent : (o : Option ℕ) → ((x : ℕ) → o ≡ Some x → x ≤ last_time) → Small o
-small_sent None f = tt
-small_sent (Some x) f = omega (arith, f x refl)
 
 -- two steps that are the same at a gateway do the same there
 pub does_same : (s t : Core → Step) (before after : Core) (answer : Result Answer Refusal) (out out' : List ℕ)

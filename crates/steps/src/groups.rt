@@ -15,6 +15,7 @@ use crate::sealed::{notify, wrap};
 use crate::sessions::is_good;
 use crate::state::Core;
 use crate::wrappers::open;
+use clock::group::tag_of;
 use frames::LARGEST_FRAME;
 use frames::reading::{Notice, Wrapper};
 use frames::stamps::Stamp;
@@ -106,7 +107,7 @@ impl Core {
         let stamp = Stamp {
             number: time,
             serial: self.settings.own_serial(),
-            tag: (lot % 0x1_0000) as u16,
+            tag: tag_of(lot),
         };
         let length = wrap::<S>(&self.settings.group, GROUP, stamp, telegram, out)?;
         Ok((length, time))
