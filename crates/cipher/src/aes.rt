@@ -183,6 +183,7 @@ fn full_round(s: &mut Block, key: &Block)
     add_round_key(s, key);
 }
 
+// Not one function with the full round, under a switch: that the last round has no MixColumns is best seen so.
 fn final_round(s: &mut Block, last: &Block)
     ensures { s.new ≡ last_round s.old last.now }
 {

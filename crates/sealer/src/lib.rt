@@ -17,6 +17,7 @@ pub const LARGEST_TELEGRAM: usize = 474;
 pub type Nonce = [u8; 14];
 
 // A sealer has no state: its type says which sealer it is. A telegram longer than the largest cannot be passed to it.
+// That stands in the clauses and in no type, since it is the output slice itself that is handed on to a sealer.
 pub trait Sealer {
     // the meaning: ciphertext and MAC by key, nonce, associated data and telegram
     ghost ciphertext: { Sealed };
@@ -69,6 +70,7 @@ pub fn seal_and_open<S: Sealer>(
 }
 
 // Two frames worked by hand under the bench cipher hold of the definitions; there is nothing to compute.
+#[tactic(auto, unfolding(crate::specs::Counter::masked, crate::specs::Mac::mac_of, crate::specs::Mac::raw_mac, crate::specs::Mac::covered))]
 pub fn samples_hold()
     ensures notice { NoticeSample }
     ensures wrapper { WrapperSample }
