@@ -1,5 +1,6 @@
 use cipher::aes::Aes128;
 use frames::sealing::{mac_of_authenticate, seal_notice, seal_response, seal_wrapper};
+use frames::stamps::Stamp;
 use frames::writing::{refuse_session, status_telegram};
 use published::knx;
 use sealer::sealers::Knx;
@@ -19,9 +20,11 @@ fn published_wrapper(rt: HostRuntime) {
     let sealed = seal_wrapper::<Knx<Aes128>>(
         knx::SESSION_KEY,
         1,
-        0,
-        0x00fa_1234_5678,
-        0xaffe,
+        Stamp {
+            number: 0,
+            serial: 0x00fa_1234_5678,
+            tag: 0xaffe,
+        },
         knx::AUTHENTICATE,
         &mut out,
     );
@@ -37,9 +40,11 @@ fn published_status(rt: HostRuntime) {
     let sealed = seal_wrapper::<Knx<Aes128>>(
         knx::SESSION_KEY,
         1,
-        0,
-        0x00fa_aaaa_aaaa,
-        0xaffe,
+        Stamp {
+            number: 0,
+            serial: 0x00fa_aaaa_aaaa,
+            tag: 0xaffe,
+        },
         &status_telegram(0),
         &mut out,
     );
@@ -49,13 +54,18 @@ fn published_status(rt: HostRuntime) {
 #[test]
 fn no_room(rt: HostRuntime) {
     let key = knx::SESSION_KEY;
+    let stamp = Stamp {
+        number: 0,
+        serial: 0,
+        tag: 0,
+    };
     let mut out = [0xee; 61];
-    let sealed = seal_wrapper::<Knx<Aes128>>(key, 1, 0, 0, 0, knx::AUTHENTICATE, &mut out);
+    let sealed = seal_wrapper::<Knx<Aes128>>(key, 1, stamp, knx::AUTHENTICATE, &mut out);
     assert!(rt; sealed == None && out == [0xee; 61]);
     let mut large = [0xee; 600];
-    let sealed = seal_wrapper::<Knx<Aes128>>(key, 1, 0, 0, 0, &[0; 475], &mut large);
+    let sealed = seal_wrapper::<Knx<Aes128>>(key, 1, stamp, &[0; 475], &mut large);
     assert!(rt; sealed == None && large[0] == 0xee);
-    assert!(rt; seal_notice::<Knx<Aes128>>(key, 0, 0, 0, &mut [0xee; 35]) == None);
+    assert!(rt; seal_notice::<Knx<Aes128>>(key, stamp, &mut [0xee; 35]) == None);
     assert!(rt; refuse_session(&mut [0xee; 7]) == None);
     assert!(rt;
         refuse_session(&mut out) == Some(8) && out.starts_with(b"\x06\x10\x09\x52\x00\x08\x00\x00")

@@ -1,5 +1,4 @@
 use frames::telegrams::{Telegram, authenticate, classify};
-use octets::runs::put;
 use published::knx;
 use std::test::Fail;
 
@@ -20,21 +19,20 @@ fn kinds(rt: HostRuntime) {
 }
 
 #[test]
-fn every_length(rt: HostRuntime) {
+fn every_length(rt: HostRuntime) -> Result<(), Fail> {
     for length in 0u16..477 {
         let [high, low] = length.to_be_bytes();
-        let mut octets = [0; 476];
-        put(&mut octets, 0, &[0x06, 0x10, 0x05, 0x30, high, low]);
-        let good = classify(&octets[..length as usize]) == Telegram::Good(5);
+        let mut octets = vec![in rt.alloc(); 0x06, 0x10, 0x05, 0x30, high, low]?;
+        octets.resize(length as usize, 0)?;
+        let good = classify(octets.as_slice()) == Telegram::Good(5);
         assert!(rt; good == (length >= 6 && length <= 474));
     }
+    Ok(())
 }
 
 #[test]
 fn sign_in(rt: HostRuntime) -> Result<(), Fail> {
-    let Some(sign) = authenticate(knx::AUTHENTICATE) else {
-        return Err(Fail::new("no sign-in"));
-    };
+    let sign = authenticate(knx::AUTHENTICATE).ok_or("no sign-in")?;
     assert!(rt; sign.user == 1 && *sign.mac == *knx::AUTHENTICATE_MAC);
     for at in 0..7 {
         let mut octets = *knx::AUTHENTICATE;

@@ -1,13 +1,16 @@
 // A gateway on a line: steps are taken on it, and each is held to what is to be seen.
-use crate::site::{Buffer, CLIENT, OWN, mix, set};
+use crate::site::{CLIENT, OWN, SIGN_IN_1};
 use crate::{by_hand, site};
 use cipher::bench::Bench;
+use frames::WRAPPER_OVERHEAD;
 use frames::sealing::seal_wrapper;
+use frames::stamps::Stamp;
 use gateway::Gateway;
 use rules::answers::{Answer, Refusal};
 use rules::settings::Settings;
 use sealer::Sealer;
 use sealer::sealers::Knx;
+use std::alloc::{AllocError, Global};
 use std::test::*;
 
 // What buffers hold before each call.
@@ -68,57 +71,49 @@ pub enum Seen {
 
 pub type Run = &'static [(Step, Seen)];
 
-#[derive(Drop)]
-pub struct Line<S> {
-    gateway: Gateway<S>,
-    out: Buffer,
-    work: Buffer,
-    // how many octets of each are lent
-    out_room: usize,
-    work_room: usize,
-}
+// Session 1 opens, and user 1 signs in.
+pub const OPEN: (Step, Seen) = (Step::Request(1), Seen::Response(1));
 
-// Octets to the front of a buffer.
-fn front(buffer: &mut Buffer, octets: &[u8]) -> usize {
-    set(buffer, 0, octets);
-    octets.len()
-}
+pub const SIGNED: (Step, Seen) = (Step::Wrapped(1, 0, SIGN_IN_1), Seen::Status(1, 0, 0));
 
-// Makes the frame that arrives, and answers its length.
-fn make_frame<S: Sealer>(step: &Step, frame: &mut Buffer) -> usize {
+// Makes the frame that arrives.
+fn make_frame<S: Sealer>(heap: Global, step: &Step) -> Result<Vec<u8>, AllocError> {
     match *step {
-        Step::Octets(octets) => front(frame, octets),
+        Step::Octets(octets) => octets.to_vec(heap),
         Step::Changed(octets, at, bits) => {
-            let size = front(frame, octets);
-            mix(frame, at, &[bits]);
-            size
+            let mut frame = octets.to_vec(heap)?;
+            if let Some(octet) = frame.get_mut(at) {
+                *octet ^= bits;
+            }
+            Ok(frame)
         }
         Step::Wrapped(session, number, telegram) => {
             let key = site::key_of(session);
-            seal_wrapper::<S>(&key, session, number, CLIENT, 0, telegram, frame).unwrap_or(0)
+            let stamp = Stamp {
+                number,
+                serial: CLIENT,
+                tag: 0,
+            };
+            let mut frame = vec![in heap; 0; telegram.len().saturating_add(WRAPPER_OVERHEAD)]?;
+            seal_wrapper::<S>(&key, session, stamp, telegram, frame.as_mut_slice());
+            Ok(frame)
         }
-        _ => make_known_frame(step, frame),
+        Step::Request(_) | Step::Offer(_) => site::REQUEST.to_vec(heap),
+        Step::PublishedRequest => site::published_request().to_vec(heap),
+        Step::Stating(kind, size) => site::stating(heap, kind, size),
+        Step::Back(session, number) => by_hand::sent(session, number).to_vec(heap),
+        Step::Grouped(time, serial, tag, _) => by_hand::grouped(time, serial, tag).to_vec(heap),
+        Step::Notify(time, serial, tag, _) => by_hand::notice(time, serial, tag).to_vec(heap),
+        _ => Ok(Vec::new(heap)),
     }
 }
 
-fn make_known_frame(step: &Step, frame: &mut Buffer) -> usize {
+fn make_offer(heap: Global, step: &Step) -> Result<Vec<u8>, AllocError> {
     match *step {
-        Step::Request(_) | Step::Offer(_) => front(frame, site::REQUEST),
-        Step::PublishedRequest => site::published_request(frame),
-        Step::Stating(kind, size) => site::stating(frame, kind, size),
-        Step::Back(session, number) => by_hand::sent(frame, session, number),
-        Step::Grouped(time, serial, tag, _) => by_hand::grouped(frame, time, serial, tag),
-        Step::Notify(time, serial, tag, _) => by_hand::notice(frame, time, serial, tag),
-        _ => 0,
-    }
-}
-
-fn make_offer(step: &Step, offer: &mut Buffer) -> usize {
-    match *step {
-        Step::Request(session) => site::offer(offer, session),
-        Step::Offer(octets) => front(offer, octets),
-        Step::PublishedRequest => site::published_offer(offer),
-        _ => 0,
+        Step::Request(session) => site::offer(session).to_vec(heap),
+        Step::Offer(octets) => octets.to_vec(heap),
+        Step::PublishedRequest => site::published_offer().to_vec(heap),
+        _ => Ok(Vec::new(heap)),
     }
 }
 
@@ -129,126 +124,78 @@ fn lot_of(step: &Step) -> u32 {
     }
 }
 
-// What is to stand in front of the output.
-fn make_output(seen: &Seen, out: &mut Buffer) -> usize {
+// What is to be put out.
+fn make_output(heap: Global, seen: &Seen) -> Result<Vec<u8>, AllocError> {
     match *seen {
-        Seen::Delivered(_, _, _, octets) | Seen::Frame(octets) => front(out, octets),
-        Seen::NoSession => front(out, b"\x06\x10\x09\x52\x00\x08\x00\x00"),
-        Seen::Response(session) => by_hand::response(out, session),
-        Seen::Status(session, number, code) => by_hand::status(out, session, number, code),
-        Seen::Sent(session, number) => by_hand::sent(out, session, number),
-        Seen::Longest(number) => by_hand::longest(out, number),
-        Seen::Announced(time, tag) => by_hand::grouped(out, time, OWN, tag),
-        Seen::Notice(time, serial, tag) => by_hand::notice(out, time, serial, tag),
-        Seen::Refused(_) | Seen::Nothing | Seen::Taken | Seen::Timer(_) => 0,
+        Seen::Delivered(_, _, _, octets) | Seen::Frame(octets) => octets.to_vec(heap),
+        Seen::NoSession => b"\x06\x10\x09\x52\x00\x08\x00\x00".to_vec(heap),
+        Seen::Response(session) => by_hand::response(session).to_vec(heap),
+        Seen::Status(session, number, code) => by_hand::status(session, number, code).to_vec(heap),
+        Seen::Sent(session, number) => by_hand::sent(session, number).to_vec(heap),
+        Seen::Longest(number) => by_hand::longest(number).to_vec(heap),
+        Seen::Announced(time, tag) => by_hand::grouped(time, OWN, tag).to_vec(heap),
+        Seen::Notice(time, serial, tag) => by_hand::notice(time, serial, tag).to_vec(heap),
+        Seen::Refused(_) | Seen::Nothing | Seen::Taken | Seen::Timer(_) => Ok(Vec::new(heap)),
     }
 }
 
-// An answer or a refusal as numbers: which, and the values but the length.
-#[derive(Clone, Copy)]
-struct Said {
-    which: u8,
-    session: u16,
-    number: u64,
-    user: u8,
-}
-
-fn saying(which: u8, session: u16, number: u64, user: u8) -> Said {
-    Said {
-        which,
-        session,
-        number,
-        user,
-    }
-}
-
-const REFUSED: u8 = 100;
-
-// A frame that bears a number is told apart from one that does not.
-const SEALED: u8 = 20;
-
-fn answered(got: &Result<Answer, Refusal>) -> Said {
-    match *got {
-        Ok(
-            Answer::Delivered {
-                session,
-                number,
-                user,
-                ..
-            },
-        ) => saying(1, session, number, user),
-        Ok(Answer::Sealed { number, .. }) => saying(SEALED, 0, number, 0),
-        Ok(answer) => saying(answer.number(), 0, 0, 0),
-        Err(why) => saying(why.number().wrapping_add(REFUSED), 0, 0, 0),
-    }
-}
-
-fn expected(seen: &Seen) -> Said {
+// What is to be answered where so many octets are put out. A refusal is told by its number.
+fn expected(seen: &Seen, length: usize) -> Result<Answer, u8> {
     match *seen {
-        Seen::Refused(number) => saying(number.wrapping_add(REFUSED), 0, 0, 0),
-        Seen::Nothing => saying(0, 0, 0, 0),
-        Seen::Taken | Seen::Timer(_) => saying(3, 0, 0, 0),
-        Seen::Delivered(session, number, user, _) => saying(1, session, number, user),
+        Seen::Refused(number) => Err(number),
+        Seen::Nothing => Ok(Answer::Nothing),
+        Seen::Taken | Seen::Timer(_) => Ok(Answer::Taken),
+        Seen::Delivered(session, number, user, _) => Ok(Answer::Delivered {
+            session,
+            number,
+            user,
+            length,
+        }),
         Seen::Sent(_, number) | Seen::Longest(number) | Seen::Announced(number, _) => {
-            saying(SEALED, 0, number, 0)
+            Ok(Answer::Sealed { length, number })
         }
-        _ => saying(2, 0, 0, 0),
+        _ => Ok(Answer::Frame { length }),
     }
 }
 
-fn agree(a: Said, b: Said) -> bool {
-    a.which == b.which && a.session == b.session && a.number == b.number && a.user == b.user
+// What differs from what is to be seen.
+#[derive(Debug, Drop)]
+enum Fault {
+    AnotherAnswer,
+    AnotherOutput,
+    WorkNotClear,
+    AnotherTimer,
+    NoMemory,
 }
 
-fn length(got: &Result<Answer, Refusal>) -> usize {
-    match *got {
-        Ok(Answer::Delivered { length, .. }) => length,
-        Ok(Answer::Frame { length }) => length,
-        Ok(Answer::Sealed { length, .. }) => length,
-        _ => 0,
+impl From<AllocError> for Fault {
+    fn from(_: AllocError) -> Fault {
+        Fault::NoMemory
     }
 }
 
-// A work area of which so many octets are cleared.
-fn cleared(room: usize) -> Buffer {
-    let mut work = [FILL; 600];
-    set(&mut work, 0, &[0; 600][0..room.min(600)]);
-    work
+#[derive(Drop)]
+pub struct Line<S> {
+    gateway: Gateway<S>,
+    // output and work area, as long as they are lent
+    out: Vec<u8>,
+    work: Vec<u8>,
 }
 
 impl<S: Sealer> Line<S> {
-    pub fn new(settings: Settings) -> Result<Line<S>, Fail> {
-        match Gateway::make(settings) {
-            Ok(gateway) => Ok(Line {
-                gateway,
-                out: [FILL; 600],
-                work: [FILL; 600],
-                out_room: 512,
-                work_room: 512,
-            }),
-            Err(_) => Err(Fail::new("no gateway")),
-        }
+    pub fn new(heap: Global, settings: Settings) -> Result<Line<S>, Fail> {
+        let gateway = Gateway::make(settings).map_err(|_| Fail::new("no gateway"))?;
+        Ok(Line {
+            gateway,
+            out: vec![in heap; FILL; 512]?,
+            work: vec![in heap; FILL; 512]?,
+        })
     }
 
-    fn arrive(&mut self, step: &Step) -> Result<Answer, Refusal> {
-        let mut frame = [0; 600];
-        let mut offer = [0; 600];
-        let f = make_frame::<S>(step, &mut frame).min(600);
-        let o = make_offer(step, &mut offer).min(600);
-        let (out, work) = (self.out_room.min(600), self.work_room.min(600));
-        self.gateway.arrive(
-            &frame[0..f],
-            &offer[0..o],
-            lot_of(step),
-            &mut self.out[0..out],
-            &mut self.work[0..work],
-        )
-    }
-
-    fn take(&mut self, step: &Step) -> Result<Answer, Refusal> {
-        let (o, w) = (self.out_room.min(600), self.work_room.min(600));
-        let (out, work) = (&mut self.out[0..o], &mut self.work[0..w]);
-        match *step {
+    fn take(&mut self, step: &Step) -> Result<Result<Answer, Refusal>, AllocError> {
+        let heap = *self.out.allocator();
+        let (out, work) = (self.out.as_mut_slice(), self.work.as_mut_slice());
+        Ok(match *step {
             Step::Pass(milliseconds) => {
                 work.fill(0);
                 Ok(self.gateway.pass(milliseconds))
@@ -257,74 +204,67 @@ impl<S: Sealer> Line<S> {
             Step::Send(session, telegram) => self.gateway.send(session, telegram, out, work),
             Step::Announce(telegram, lot) => self.gateway.announce(telegram, lot, out, work),
             Step::HangUp(session) => self.gateway.hang_up(session, out, work),
-            _ => self.arrive(step),
-        }
+            _ => {
+                let frame = make_frame::<S>(heap, step)?;
+                let offer = make_offer(heap, step)?;
+                self.gateway.arrive(frame.as_slice(), offer.as_slice(), lot_of(step), out, work)
+            }
+        })
     }
 
-    // What differs, if anything does.
-    fn fault(&self, got: &Result<Answer, Refusal>, seen: &Seen) -> Option<&'static str> {
-        let mut out = [FILL; 600];
-        let size = make_output(seen, &mut out);
-        if !agree(answered(got), expected(seen)) {
-            return Some("another answer");
-        }
-        if length(got) != size || self.out != out {
-            return Some("another output");
-        }
-        if self.work != cleared(self.work_room) {
-            return Some("the work area is not clear");
-        }
-        None
-    }
-
-    // Takes a step, and answers what differs from what is to be seen, if anything does.
-    fn fault_of(&mut self, step: &Step, seen: &Seen) -> Option<&'static str> {
+    // Takes a step, and holds it to what is to be seen.
+    fn hold(&mut self, step: &Step, seen: &Seen) -> Result<(), Fault> {
         if let Step::Lend(out, work) = *step {
-            self.out_room = out;
-            self.work_room = work;
-            return None;
+            self.out.resize(out, FILL)?;
+            self.work.resize(work, FILL)?;
+            return Ok(());
         }
         self.out.fill(FILL);
         self.work.fill(FILL);
         let before = self.gateway.timer();
-        let got = self.take(step);
+        let got = self.take(step)?.map_err(|why| why.number());
         let after = self.gateway.timer();
         let timer = match *seen {
             Seen::Refused(_) => before,
             Seen::Timer(timer) => timer,
             _ => after,
         };
-        match self.fault(&got, seen) {
-            Some(why) => Some(why),
-            None if after != timer => Some("another timer"),
-            None => None,
+        let mut out = make_output(*self.out.allocator(), seen)?;
+        if got != expected(seen, out.len()) {
+            return Err(Fault::AnotherAnswer);
         }
+        out.resize(self.out.len(), FILL)?;
+        if self.out != out {
+            return Err(Fault::AnotherOutput);
+        }
+        if self.work.iter().any(|octet| *octet != 0) {
+            return Err(Fault::WorkNotClear);
+        }
+        if after != timer {
+            return Err(Fault::AnotherTimer);
+        }
+        Ok(())
     }
 
     pub fn see(&mut self, step: &Step, seen: &Seen) -> Result<(), Fail> {
-        match self.fault_of(step, seen) {
-            Some(why) => Err(Fail::new(why)),
-            None => Ok(()),
-        }
+        self.hold(step, seen)?;
+        Ok(())
     }
 
     pub fn play(&mut self, run: &[(Step, Seen)]) -> Result<(), Fail> {
-        let mut count = 0u8;
-        for (step, seen) in run {
-            count = count.wrapping_add(1);
-            if let Some(why) = self.fault_of(step, seen) {
-                return Err(Fail::new(format_args!("step {count}: {why}")));
-            }
+        for (count, (step, seen)) in (1u32..).zip(run) {
+            self.hold(step, seen)
+                .map_err(|why| Fail::new(format_args!("step {count}: {why:?}")))?;
         }
         Ok(())
     }
 }
 
 // A line with the KNX sealer over the bench cipher.
-pub fn bench(settings: Settings) -> Result<Line<Knx<Bench>>, Fail> {
-    Line::new(settings)
+pub fn bench(heap: Global, settings: Settings) -> Result<Line<Knx<Bench>>, Fail> {
+    Line::new(heap, settings)
 }
 
-pub fn play(settings: Settings, run: Run) -> Result<(), Fail> {
-    bench(settings)?.play(run)
+pub fn play(heap: Global, settings: Settings, run: Run) -> Result<(), Fail> {
+    bench(heap, settings)?.play(run)
 }

@@ -2,8 +2,8 @@
 // 12 has no test: it takes 2^48 - 1 sends in one session to bring its own number to the last.
 use crate::line::Seen::*;
 use crate::line::Step::*;
-use crate::line::{Run, Seen, Step, play};
-use crate::site::{CLIENT, GOOD, OWN, REQUEST, SIGN_IN_1, STATUS_0, TOO_LONG, site};
+use crate::line::{OPEN, Run, SIGNED, play};
+use crate::site::{CLIENT, GOOD, LAST, OWN, REQUEST, SIGN_IN_1, STATUS_0, TOO_LONG, site};
 use std::test::*;
 
 // Number 100 in session 1, with a MAC of zeros.
@@ -12,14 +12,9 @@ const FORGED: &[u8] = b"\
     \x00\x00\x00\x02\x00\x00\x00\x00\x00\x00\x00\x00\x00\x00\x00\x00\
     \x00\x00\x00\x00\x00\x00\x00\x00\x00\x00\x00\x00";
 
-// Session 1 opens, and user 1 signs in.
-const OPEN: (Step, Seen) = (Request(1), Response(1));
-
-const SIGNED: (Step, Seen) = (Wrapped(1, 0, SIGN_IN_1), Status(1, 0, 0));
-
 // What is refused for short buffers goes through after it, so the refusals changed nothing.
 #[test]
-fn short_buffers_1() -> Result<(), Fail> {
+fn short_buffers_1(rt: HostRuntime) -> Result<(), Fail> {
     const RUN: Run = &[
         OPEN,
         SIGNED,
@@ -52,11 +47,11 @@ fn short_buffers_1() -> Result<(), Fail> {
         (Announce(GOOD, 0), Announced(10_401, 0)),
         (HangUp(1), Status(1, 2, 5)),
     ];
-    play(site(0, 0, 0), RUN)
+    play(rt.alloc(), site(0, 0, 0), RUN)
 }
 
 #[test]
-fn frames_that_are_not_read_2_3_4() -> Result<(), Fail> {
+fn frames_that_are_not_read_2_3_4(rt: HostRuntime) -> Result<(), Fail> {
     const RUN: Run = &[
         (Stating(0x0950, 0), Refused(2)),
         (Stating(0x0950, 5), Refused(2)),
@@ -88,11 +83,11 @@ fn frames_that_are_not_read_2_3_4() -> Result<(), Fail> {
         (Stating(0x0950, 512), Refused(9)),
         (Stating(0x0955, 36), Refused(9)),
     ];
-    play(site(0, 0, 0), RUN)
+    play(rt.alloc(), site(0, 0, 0), RUN)
 }
 
 #[test]
-fn offers_5() -> Result<(), Fail> {
+fn offers_5(rt: HostRuntime) -> Result<(), Fail> {
     const RUN: Run = &[
         (Offer(b""), Refused(5)),
         (Offer(&[1; 49]), Refused(5)),
@@ -106,12 +101,12 @@ fn offers_5() -> Result<(), Fail> {
         (Due(0), Status(1, 0, 3)),
         OPEN,
     ];
-    play(site(0, 0, 0), RUN)
+    play(rt.alloc(), site(0, 0, 0), RUN)
 }
 
 // No such session, or a lapsed one. Session 0 is none.
 #[test]
-fn sessions_6() -> Result<(), Fail> {
+fn sessions_6(rt: HostRuntime) -> Result<(), Fail> {
     const RUN: Run = &[
         (Wrapped(1, 0, STATUS_0), Refused(6)),
         (Send(1, b""), Refused(6)),
@@ -127,12 +122,12 @@ fn sessions_6() -> Result<(), Fail> {
         (Due(0), Status(1, 0, 3)),
         (HangUp(1), Refused(6)),
     ];
-    play(site(0, 0, 0), RUN)
+    play(rt.alloc(), site(0, 0, 0), RUN)
 }
 
 // Before number and MAC are looked at, and after the session is.
 #[test]
-fn own_wrappers_taken_back_7() -> Result<(), Fail> {
+fn own_wrappers_taken_back_7(rt: HostRuntime) -> Result<(), Fail> {
     const RUN: Run = &[
         OPEN,
         SIGNED,
@@ -145,13 +140,12 @@ fn own_wrappers_taken_back_7() -> Result<(), Fail> {
         // a timer notify of our own is accepted
         (Notify(9, OWN, 3, 0), Timer(9)),
     ];
-    play(site(0, 0, 0), RUN)
+    play(rt.alloc(), site(0, 0, 0), RUN)
 }
 
 // The number of a wrapper that does not open is not stored.
 #[test]
-fn numbers_8_and_a_forged_one_9() -> Result<(), Fail> {
-    const LAST: u64 = 0xffff_ffff_ffff;
+fn numbers_8_and_a_forged_one_9(rt: HostRuntime) -> Result<(), Fail> {
     const RUN: Run = &[
         OPEN,
         (Wrapped(1, 5, SIGN_IN_1), Status(1, 0, 0)),
@@ -166,12 +160,12 @@ fn numbers_8_and_a_forged_one_9() -> Result<(), Fail> {
         (Wrapped(1, LAST, GOOD), Delivered(1, LAST, 1, GOOD)),
         (Wrapped(1, LAST, GOOD), Refused(8)),
     ];
-    play(site(0, 0, 0), RUN)
+    play(rt.alloc(), site(0, 0, 0), RUN)
 }
 
 // Not good: another stated length, another version, family 09, too short, too long.
 #[test]
-fn telegrams_10_before_the_sign_in_11() -> Result<(), Fail> {
+fn telegrams_10_before_the_sign_in_11(rt: HostRuntime) -> Result<(), Fail> {
     const STATED: &[u8] = b"\x06\x10\x05\x30\x00\x07";
     const VERSION: &[u8] = b"\x06\x11\x05\x30\x00\x06";
     const FAMILY: &[u8] = b"\x06\x10\x09\x30\x00\x06";
@@ -195,5 +189,5 @@ fn telegrams_10_before_the_sign_in_11() -> Result<(), Fail> {
         (Send(1, GOOD), Refused(11)),
         (Grouped(5, CLIENT, 0, 0), Delivered(0, 5, 0, GOOD)),
     ];
-    play(site(0, 0, 0), RUN)
+    play(rt.alloc(), site(0, 0, 0), RUN)
 }

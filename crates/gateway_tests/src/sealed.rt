@@ -46,27 +46,27 @@ fn damage(line: &mut Line<Knx<Aes128>>, frame: &'static [u8], wrapper: bool) -> 
 }
 
 #[test]
-fn the_published_session() -> Result<(), Fail> {
+fn the_published_session(rt: HostRuntime) -> Result<(), Fail> {
     const RUN: Run = &[
         (Octets(knx::WRAPPER), Frame(STATUS)),
         (Octets(knx::WRAPPER), Refused(8)),
         // the serial is our own here
         (Octets(knx::STATUS), Refused(7)),
     ];
-    let mut line = Line::<Knx<Aes128>>::new(published_site())?;
+    let mut line = Line::<Knx<Aes128>>::new(rt.alloc(), published_site())?;
     line.see(&PublishedRequest, &Frame(knx::RESPONSE))?;
     damage(&mut line, knx::WRAPPER, true)?;
     line.play(RUN)
 }
 
 #[test]
-fn every_octet_of_a_frame_of_the_group_counts() -> Result<(), Fail> {
+fn every_octet_of_a_frame_of_the_group_counts(rt: HostRuntime) -> Result<(), Fail> {
     const RUN: Run = &[
         (Octets(NOTICE), Timer(5)),
         (Octets(WRAPPER), Delivered(0, 6, 0, GOOD)),
         (Pass(0), Timer(6)),
     ];
-    let mut line = Line::<Knx<Aes128>>::new(site(0, 0, 0))?;
+    let mut line = Line::<Knx<Aes128>>::new(rt.alloc(), site(0, 0, 0))?;
     damage(&mut line, NOTICE, false)?;
     damage(&mut line, WRAPPER, true)?;
     line.play(RUN)
@@ -74,7 +74,7 @@ fn every_octet_of_a_frame_of_the_group_counts() -> Result<(), Fail> {
 
 // Telegrams stand readable in the frames, and the MAC is the same. The largest frame fills all 512 octets.
 #[test]
-fn the_reading_sealer_leaves_telegrams_readable() -> Result<(), Fail> {
+fn the_reading_sealer_leaves_telegrams_readable(rt: HostRuntime) -> Result<(), Fail> {
     const SIGNED: &[u8] = b"\
         \x06\x10\x09\x50\x00\x2e\x00\x01\x00\x00\x00\x00\x00\x00\x00\xfa\
         \x00\x00\x00\x01\x00\x00\x06\x10\x09\x54\x00\x08\x00\x00\x00\x08\
@@ -85,5 +85,5 @@ fn the_reading_sealer_leaves_telegrams_readable() -> Result<(), Fail> {
         (Wrapped(1, 1, LONGEST), Delivered(1, 1, 1, LONGEST)),
         (Send(1, LONGEST), Longest(1)),
     ];
-    Line::<Reading<Bench>>::new(site(0, 0, 0))?.play(RUN)
+    Line::<Reading<Bench>>::new(rt.alloc(), site(0, 0, 0))?.play(RUN)
 }

@@ -1,8 +1,9 @@
 // Sessions: slots, sign-in, what an open one takes, and how it ends.
 use crate::line::Seen::*;
 use crate::line::Step::*;
-use crate::line::{Run, Seen, Step, bench, play};
+use crate::line::{OPEN, Run, SIGNED, bench, play};
 use crate::site::{CLOSE, GOOD, LONGEST, MANAGING, OWN, SIGN_IN_1, SIGN_IN_2, STATUS_0, site};
+use std::alloc::Global;
 use std::test::*;
 
 const EIGHT: Run = &[
@@ -16,20 +17,15 @@ const EIGHT: Run = &[
     (Request(4), Response(4)),
 ];
 
-// Session 1 opens, and user 1 signs in.
-const OPEN: (Step, Seen) = (Request(1), Response(1));
-
-const SIGNED: (Step, Seen) = (Wrapped(1, 0, SIGN_IN_1), Status(1, 0, 0));
-
 // Sessions 1 to 8 are open.
-fn play_with_eight(run: Run) -> Result<(), Fail> {
-    let mut line = bench(site(0, 0, 0))?;
+fn play_with_eight(heap: Global, run: Run) -> Result<(), Fail> {
+    let mut line = bench(heap, site(0, 0, 0))?;
     line.play(EIGHT)?;
     line.play(run)
 }
 
 #[test]
-fn the_ninth_request_finds_no_slot() -> Result<(), Fail> {
+fn the_ninth_request_finds_no_slot(rt: HostRuntime) -> Result<(), Fail> {
     const RUN: Run = &[
         (Request(9), NoSession),
         (Request(8), Refused(5)),
@@ -38,11 +34,13 @@ fn the_ninth_request_finds_no_slot() -> Result<(), Fail> {
         (Request(9), Response(9)),
         (Request(4), NoSession),
     ];
-    play_with_eight(RUN)
+    play_with_eight(rt.alloc(), RUN)
 }
 
 #[test]
-fn a_lapsed_session_keeps_its_slot_and_number_until_due_ends_it() -> Result<(), Fail> {
+fn a_lapsed_session_keeps_its_slot_and_number_until_due_ends_it(
+    rt: HostRuntime,
+) -> Result<(), Fail> {
     const RUN: Run = &[
         (Pass(10_000), Taken),
         (Request(9), NoSession),
@@ -55,11 +53,13 @@ fn a_lapsed_session_keeps_its_slot_and_number_until_due_ends_it() -> Result<(), 
         (HangUp(1), Status(1, 0, 5)),
         (HangUp(3), Refused(6)),
     ];
-    play_with_eight(RUN)
+    play_with_eight(rt.alloc(), RUN)
 }
 
 #[test]
-fn due_ends_the_smallest_number_first_and_rests_after_nine_frames() -> Result<(), Fail> {
+fn due_ends_the_smallest_number_first_and_rests_after_nine_frames(
+    rt: HostRuntime,
+) -> Result<(), Fail> {
     const RUN: Run = &[
         (Pass(10_400), Taken),
         (Due(7), Status(1, 0, 3)),
@@ -73,13 +73,13 @@ fn due_ends_the_smallest_number_first_and_rests_after_nine_frames() -> Result<()
         (Due(7), Notice(10_400, OWN, 7)),
         (Due(7), Nothing),
     ];
-    play_with_eight(RUN)
+    play_with_eight(rt.alloc(), RUN)
 }
 
 // Octet 6 is wrong while the MAC is right over it; a user who has no hash; user 0; user 9; user 2 under the hash of user 1;
 // a wrong MAC; lengths and stated lengths other than 24.
 #[test]
-fn a_wrong_sign_in_gets_status_01_and_ends_the_session() -> Result<(), Fail> {
+fn a_wrong_sign_in_gets_status_01_and_ends_the_session(rt: HostRuntime) -> Result<(), Fail> {
     const RUN: Run = &[
         OPEN,
         (
@@ -157,12 +157,12 @@ fn a_wrong_sign_in_gets_status_01_and_ends_the_session() -> Result<(), Fail> {
         (Wrapped(1, 0, b"\x06\x10\x09\x53\x00\x06"), Status(1, 0, 1)),
         (HangUp(1), Refused(6)),
     ];
-    play(site(0, 0, 0), RUN)
+    play(rt.alloc(), site(0, 0, 0), RUN)
 }
 
 // Anything but a sign-in or a status gets status 02 before the sign-in; a status is taken.
 #[test]
-fn an_unsigned_session_ends_by_any_other_telegram() -> Result<(), Fail> {
+fn an_unsigned_session_ends_by_any_other_telegram(rt: HostRuntime) -> Result<(), Fail> {
     const RUN: Run = &[
         OPEN,
         (Wrapped(1, 0, STATUS_0), Taken),
@@ -181,11 +181,11 @@ fn an_unsigned_session_ends_by_any_other_telegram() -> Result<(), Fail> {
         (Wrapped(1, 7, b"\x00\x00\x00\x00\x00\x00"), Status(1, 0, 2)),
         (HangUp(1), Refused(6)),
     ];
-    play(site(0, 0, 0), RUN)
+    play(rt.alloc(), site(0, 0, 0), RUN)
 }
 
 #[test]
-fn user_1_is_delivered_family_03_and_user_2_is_not() -> Result<(), Fail> {
+fn user_1_is_delivered_family_03_and_user_2_is_not(rt: HostRuntime) -> Result<(), Fail> {
     const RUN: Run = &[
         OPEN,
         SIGNED,
@@ -197,12 +197,12 @@ fn user_1_is_delivered_family_03_and_user_2_is_not() -> Result<(), Fail> {
         (Wrapped(2, 2, GOOD), Delivered(2, 2, 2, GOOD)),
         (Wrapped(1, 2, GOOD), Delivered(1, 2, 1, GOOD)),
     ];
-    play(site(0, 0, 0), RUN)
+    play(rt.alloc(), site(0, 0, 0), RUN)
 }
 
 // A second sign-in too.
 #[test]
-fn a_signed_in_session_takes_what_is_not_delivered() -> Result<(), Fail> {
+fn a_signed_in_session_takes_what_is_not_delivered(rt: HostRuntime) -> Result<(), Fail> {
     const RUN: Run = &[
         OPEN,
         SIGNED,
@@ -213,11 +213,11 @@ fn a_signed_in_session_takes_what_is_not_delivered() -> Result<(), Fail> {
         (Wrapped(1, 5, b"\x06\x10\x09\x30\x00\x06"), Taken),
         (Wrapped(1, 6, LONGEST), Delivered(1, 6, 1, LONGEST)),
     ];
-    play(site(0, 0, 0), RUN)
+    play(rt.alloc(), site(0, 0, 0), RUN)
 }
 
 #[test]
-fn status_05_closes_whatever_its_octet_7_is() -> Result<(), Fail> {
+fn status_05_closes_whatever_its_octet_7_is(rt: HostRuntime) -> Result<(), Fail> {
     const RUN: Run = &[
         OPEN,
         (Wrapped(1, 0, CLOSE), Taken),
@@ -228,11 +228,11 @@ fn status_05_closes_whatever_its_octet_7_is() -> Result<(), Fail> {
         (Send(1, GOOD), Refused(6)),
         OPEN,
     ];
-    play(site(0, 0, 0), RUN)
+    play(rt.alloc(), site(0, 0, 0), RUN)
 }
 
 #[test]
-fn own_numbers_rise_by_one_in_each_session() -> Result<(), Fail> {
+fn own_numbers_rise_by_one_in_each_session(rt: HostRuntime) -> Result<(), Fail> {
     const RUN: Run = &[
         OPEN,
         (Request(2), Response(2)),
@@ -248,11 +248,11 @@ fn own_numbers_rise_by_one_in_each_session() -> Result<(), Fail> {
         OPEN,
         (HangUp(1), Status(1, 0, 5)),
     ];
-    play(site(0, 0, 0), RUN)
+    play(rt.alloc(), site(0, 0, 0), RUN)
 }
 
 #[test]
-fn nothing_clears_the_idle_time_of_an_unsigned_session() -> Result<(), Fail> {
+fn nothing_clears_the_idle_time_of_an_unsigned_session(rt: HostRuntime) -> Result<(), Fail> {
     const RUN: Run = &[
         OPEN,
         (Pass(6_000), Taken),
@@ -263,12 +263,12 @@ fn nothing_clears_the_idle_time_of_an_unsigned_session() -> Result<(), Fail> {
         (Wrapped(1, 2, SIGN_IN_1), Refused(6)),
         (Due(0), Status(1, 0, 3)),
     ];
-    play(site(0, 0, 0), RUN)
+    play(rt.alloc(), site(0, 0, 0), RUN)
 }
 
 // The sign-in clears it, and then every wrapper that opens; send does not.
 #[test]
-fn a_signed_in_session_lapses_at_60_000() -> Result<(), Fail> {
+fn a_signed_in_session_lapses_at_60_000(rt: HostRuntime) -> Result<(), Fail> {
     const RUN: Run = &[
         OPEN,
         (Pass(9_999), Taken),
@@ -286,5 +286,5 @@ fn a_signed_in_session_lapses_at_60_000() -> Result<(), Fail> {
         (Due(0), Status(1, 3, 3)),
         (Due(0), Notice(189_997, OWN, 0)),
     ];
-    play(site(0, 0, 0), RUN)
+    play(rt.alloc(), site(0, 0, 0), RUN)
 }

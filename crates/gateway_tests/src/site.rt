@@ -1,17 +1,19 @@
 // A site: settings, keys, and what its client sends.
-use octets::numbers::octets_of_u16;
+use octets::numbers::put_number;
+use octets::runs::put;
 use published::knx;
 use rules::settings::{Settings, User};
-
-// Where frames are made.
-pub type Buffer = [u8; 600];
+use std::alloc::{AllocError, Global};
 
 pub const OWN: u64 = 0x00fa_0000_0001;
 
 pub const CLIENT: u64 = 0x00fa_0000_0002;
 
+// the last number, and the last time
+pub const LAST: u64 = 0xffff_ffff_ffff;
+
 // a good telegram, and one of the management family
-pub const GOOD: &[u8] = b"\x06\x10\x05\x30\x00\x06";
+pub const GOOD: &[u8; 6] = b"\x06\x10\x05\x30\x00\x06";
 
 pub const MANAGING: &[u8] = b"\x06\x10\x03\x10\x00\x06";
 
@@ -60,21 +62,14 @@ fn user(octet: u8) -> User {
 
 // Users 1 and 2 have a hash.
 pub fn site(start: u64, latency: u32, sync: u32) -> Settings {
-    let nobody = user(0);
+    let mut users = [user(0); 8];
+    users[0] = user(0x44);
+    users[1] = user(0x55);
     Settings {
         serial: *b"\x00\xfa\x00\x00\x00\x01",
         device: [0x22; 16],
         group: [0x33; 16],
-        users: [
-            user(0x44),
-            user(0x55),
-            nobody,
-            nobody,
-            nobody,
-            nobody,
-            nobody,
-            nobody,
-        ],
+        users,
         start,
         latency,
         sync,
@@ -89,54 +84,36 @@ pub fn key_of(session: u16) -> [u8; 16] {
     }
 }
 
-// Octets into a buffer from a place on, as far as it goes.
-pub fn set(buffer: &mut Buffer, at: usize, octets: &[u8]) {
-    let mut i = at;
-    for octet in octets {
-        if i < 600 {
-            buffer[i] = *octet;
-            i += 1;
-        }
-    }
+// Octets that state their length: a kind, then zeros.
+pub fn stating(heap: Global, kind: u16, size: u16) -> Result<Vec<u8>, AllocError> {
+    let mut header = *b"\x06\x10\x00\x00\x00\x00";
+    put_number(&mut header, 2, kind);
+    put_number(&mut header, 4, size);
+    let mut frame = header.to_vec(heap)?;
+    frame.resize(size as usize, 0)?;
+    Ok(frame)
 }
 
-// The same by XOR.
-pub fn mix(buffer: &mut Buffer, at: usize, octets: &[u8]) {
-    let mut i = at;
-    for octet in octets {
-        if i < 600 {
-            buffer[i] ^= *octet;
-            i += 1;
-        }
-    }
+pub fn offer(session: u16) -> [u8; 50] {
+    let mut offer = [0; 50];
+    put_number(&mut offer, 0, session);
+    put(&mut offer, 2, &[0x0b; 32]);
+    put(&mut offer, 34, &key_of(session));
+    offer
 }
 
-// Octets that state their length: a kind, then what the buffer had.
-pub fn stating(frame: &mut Buffer, kind: u16, size: u16) -> usize {
-    set(frame, 0, b"\x06\x10");
-    set(frame, 2, &octets_of_u16(kind));
-    set(frame, 4, &octets_of_u16(size));
-    size as usize
+pub fn published_request() -> [u8; 46] {
+    let mut request = *REQUEST;
+    put(&mut request, 14, knx::X);
+    request
 }
 
-pub fn offer(octets: &mut Buffer, session: u16) -> usize {
-    set(octets, 0, &octets_of_u16(session));
-    set(octets, 2, &[0x0b; 32]);
-    set(octets, 34, &key_of(session));
-    50
-}
-
-pub fn published_request(frame: &mut Buffer) -> usize {
-    set(frame, 0, REQUEST);
-    set(frame, 14, knx::X);
-    46
-}
-
-pub fn published_offer(octets: &mut Buffer) -> usize {
-    set(octets, 0, b"\x00\x01");
-    set(octets, 2, knx::Y);
-    set(octets, 34, knx::SESSION_KEY);
-    50
+pub fn published_offer() -> [u8; 50] {
+    let mut offer = [0; 50];
+    put(&mut offer, 0, b"\x00\x01");
+    put(&mut offer, 2, knx::Y);
+    put(&mut offer, 34, knx::SESSION_KEY);
+    offer
 }
 
 // A site with the keys of the published session, and with the serial of its server.

@@ -1,11 +1,9 @@
-// The program week on another script: runs of twelve gateways with the answers of an independent model.
+// The program week on another script: runs of twelve gateways with the answers of an independent model. A program has one stored
+// script, and so these are two.
 #![tactic(auto)]
 
 use std::process::ExitCode;
 
 fn main(rt: HostRuntime) -> ExitCode {
-    match script::run_standard(&rt) {
-        Ok(()) => ExitCode::SUCCESS,
-        Err(_) => ExitCode::FAILURE,
-    }
+    script::run_standard(&rt).map_or(ExitCode::FAILURE, |()| ExitCode::SUCCESS)
 }

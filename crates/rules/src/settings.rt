@@ -23,7 +23,7 @@ pub struct User {
     pub hash: Block,
 }
 
-#[derive(Clone, Copy)]
+#[derive(Clone, Copy, Default)]
 pub struct Settings {
     pub serial: [u8; 6],
     // the device authentication code

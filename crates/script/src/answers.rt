@@ -1,47 +1,53 @@
 // The line that a call prints: its answer or its refusal.
 use octets::hex::Hex;
 use rules::answers::{Answer, Refusal};
-use std::io;
-use std::io::Write;
+use std::fmt;
 
-// The first octets of a buffer, at most all of it.
-fn front(buffer: &[u8], length: usize) -> Hex<'_> {
-    Hex(&buffer[0..length.min(buffer.len())])
+// What a call answered, and the output that it was lent.
+#[derive(Clone, Copy)]
+pub struct Answered<'a> {
+    pub answer: Result<Answer, Refusal>,
+    pub out: &'a [u8],
 }
 
-pub fn print<W: Write>(
-    answered: Result<Answer, Refusal>,
-    out: &[u8],
-    output: &mut W,
-) -> io::Result<()> {
-    match answered {
-        Ok(Answer::Nothing) => writeln!(output, "nothing"),
-        Ok(Answer::Taken) => writeln!(output, "taken"),
-        Ok(
-            Answer::Delivered {
-                session,
-                number,
-                user,
-                length,
-            },
-        ) => {
-            let telegram = front(out, length);
-            writeln!(
-                output,
-                "delivered {session:04X} {number} {user} {length} {telegram}"
-            )
-        }
-        Ok(Answer::Frame { length }) => {
-            let frame = front(out, length);
-            writeln!(output, "frame {length} {frame}")
-        }
-        Ok(Answer::Sealed { length, number }) => {
-            let frame = front(out, length);
-            writeln!(output, "frame {length} {number} {frame}")
-        }
-        Err(refusal) => {
-            let number = refusal.number();
-            writeln!(output, "refused {number}")
+impl Answered<'_> {
+    // The first octets of the output, at most all of it.
+    fn front(&self, length: usize) -> Hex<'_> {
+        Hex(&self.out[..length.min(self.out.len())])
+    }
+}
+
+impl fmt::Display for Answered<'_> {
+    fn fmt<W: fmt::Write>(&self, f: &mut fmt::Formatter<W>) -> fmt::Result {
+        match self.answer {
+            Ok(Answer::Nothing) => write!(f, "nothing"),
+            Ok(Answer::Taken) => write!(f, "taken"),
+            Ok(
+                Answer::Delivered {
+                    session,
+                    number,
+                    user,
+                    length,
+                },
+            ) => {
+                let telegram = self.front(length);
+                write!(
+                    f,
+                    "delivered {session:04X} {number} {user} {length} {telegram}"
+                )
+            }
+            Ok(Answer::Frame { length }) => {
+                let frame = self.front(length);
+                write!(f, "frame {length} {frame}")
+            }
+            Ok(Answer::Sealed { length, number }) => {
+                let frame = self.front(length);
+                write!(f, "frame {length} {number} {frame}")
+            }
+            Err(refusal) => {
+                let number = refusal.number();
+                write!(f, "refused {number}")
+            }
         }
     }
 }

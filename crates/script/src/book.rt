@@ -1,20 +1,12 @@
 // The book: what was delivered since the last making, in order.
 use rules::answers::Answer;
 use std::alloc::{AllocError, Global};
-use std::io;
-use std::io::Write;
-
-#[derive(Clone, Copy)]
-struct Entry {
-    session: u16,
-    number: u64,
-    user: u8,
-    length: usize,
-}
+use std::fmt;
 
 #[derive(Drop)]
 pub struct Book {
-    entries: Vec<Entry>,
+    // deliveries alone
+    entries: Vec<Answer>,
 }
 
 impl Book {
@@ -30,50 +22,41 @@ impl Book {
 
     // Enters an answer that is a delivery.
     pub fn enter(&mut self, answer: Answer) -> Result<(), AllocError> {
-        if let Answer::Delivered {
-            session,
-            number,
-            user,
-            length,
-        } = answer
-        {
-            self.entries.push(Entry {
-                session,
-                number,
-                user,
-                length,
-            })?;
+        if let Answer::Delivered { .. } = answer {
+            self.entries.push(answer)?;
         }
         Ok(())
     }
 
-    // The entries, and then how many each user has; the group is user 0.
-    pub fn print<W: Write>(&self, output: &mut W) -> io::Result<()> {
-        for entry in self.entries.as_slice() {
-            let Entry {
+    // How many entries a user has.
+    fn total(&self, of: u8) -> usize {
+        self.entries
+            .iter()
+            .filter(|entry| matches!(entry, Answer::Delivered { user, .. } if *user == of))
+            .count()
+    }
+}
+
+// The entries, and then how many each user has; the group is user 0.
+impl fmt::Display for Book {
+    fn fmt<W: fmt::Write>(&self, f: &mut fmt::Formatter<W>) -> fmt::Result {
+        for entry in &self.entries {
+            if let Answer::Delivered {
                 session,
                 number,
                 user,
                 length,
-            } = *entry;
-            writeln!(output, "entered {session:04X} {number} {user} {length}")?;
+            } = entry
+            {
+                writeln!(f, "entered {session:04X} {number} {user} {length}")?;
+            }
         }
         for user in 0..9 {
             let total = self.total(user);
             if total > 0 {
-                writeln!(output, "total {user} {total}")?;
+                writeln!(f, "total {user} {total}")?;
             }
         }
         Ok(())
-    }
-
-    fn total(&self, user: u8) -> u64 {
-        let mut total: u64 = 0;
-        for entry in self.entries.as_slice() {
-            if entry.user == user {
-                total = total.saturating_add(1);
-            }
-        }
-        total
     }
 }

@@ -1,11 +1,9 @@
 // The gateway that a script works on, over the cipher and the sealer that its settings name.
-use crate::items::Call;
 use crate::settings::{Cipher, Given, Sealing};
 use cipher::aes::Aes128;
 use cipher::bench::Bench;
-use gateway::Gateway;
+use gateway::{Call, Gateway};
 use rules::answers::{Answer, Refusal};
-use sealer::Sealer;
 use sealer::sealers::{Knx, Reading};
 
 #[derive(Drop)]
@@ -19,41 +17,27 @@ pub enum AnyGateway {
 impl AnyGateway {
     pub fn make(given: &Given) -> Result<AnyGateway, Refusal> {
         let settings = given.settings;
-        match (given.cipher, given.sealing) {
-            (Cipher::Aes, Sealing::Knx) => Ok(AnyGateway::Knx(Gateway::make(settings)?)),
-            (Cipher::Aes, Sealing::Reading) => Ok(AnyGateway::Reading(Gateway::make(settings)?)),
-            (Cipher::Bench, Sealing::Knx) => Ok(AnyGateway::BenchKnx(Gateway::make(settings)?)),
-            (Cipher::Bench, Sealing::Reading) => Ok(AnyGateway::BenchReading(Gateway::make(
-                settings,
-            )?)),
-        }
+        let made = match (given.cipher, given.sealing) {
+            (Cipher::Aes, Sealing::Knx) => AnyGateway::Knx(Gateway::make(settings)?),
+            (Cipher::Aes, Sealing::Reading) => AnyGateway::Reading(Gateway::make(settings)?),
+            (Cipher::Bench, Sealing::Knx) => AnyGateway::BenchKnx(Gateway::make(settings)?),
+            (Cipher::Bench, Sealing::Reading) => AnyGateway::BenchReading(Gateway::make(settings)?),
+        };
+        Ok(made)
     }
 
-    // The gateway after the call, and what it answered. It goes in and out by value, since a variant that holds a gateway
-    // cannot be changed in place.
+    // Four arms alike, each at a type of its own: a gateway lent as a `dyn` would need a trait and an impl beside them.
     pub fn carry_out(
-        self,
-        call: &Call,
+        &mut self,
+        call: Call,
         out: &mut [u8],
         work: &mut [u8],
-    ) -> (AnyGateway, Result<Answer, Refusal>) {
+    ) -> Result<Answer, Refusal> {
         match self {
-            AnyGateway::Knx(mut gateway) => {
-                let answered = carry_out(&mut gateway, call, out, work);
-                (AnyGateway::Knx(gateway), answered)
-            }
-            AnyGateway::Reading(mut gateway) => {
-                let answered = carry_out(&mut gateway, call, out, work);
-                (AnyGateway::Reading(gateway), answered)
-            }
-            AnyGateway::BenchKnx(mut gateway) => {
-                let answered = carry_out(&mut gateway, call, out, work);
-                (AnyGateway::BenchKnx(gateway), answered)
-            }
-            AnyGateway::BenchReading(mut gateway) => {
-                let answered = carry_out(&mut gateway, call, out, work);
-                (AnyGateway::BenchReading(gateway), answered)
-            }
+            AnyGateway::Knx(gateway) => gateway.carry_out(call, out, work),
+            AnyGateway::Reading(gateway) => gateway.carry_out(call, out, work),
+            AnyGateway::BenchKnx(gateway) => gateway.carry_out(call, out, work),
+            AnyGateway::BenchReading(gateway) => gateway.carry_out(call, out, work),
         }
     }
 
@@ -64,27 +48,5 @@ impl AnyGateway {
             AnyGateway::BenchKnx(gateway) => gateway.timer(),
             AnyGateway::BenchReading(gateway) => gateway.timer(),
         }
-    }
-}
-
-fn carry_out<S: Sealer>(
-    gateway: &mut Gateway<S>,
-    call: &Call,
-    out: &mut [u8],
-    work: &mut [u8],
-) -> Result<Answer, Refusal> {
-    match call {
-        Call::Arrive { frame, offer, lot } => gateway.arrive(
-            frame.as_slice(),
-            offer.as_slice(),
-            *lot,
-            out,
-            work,
-        ),
-        Call::Pass { milliseconds } => Ok(gateway.pass(*milliseconds)),
-        Call::Due { lot } => gateway.due(*lot, out, work),
-        Call::Send { session, telegram } => gateway.send(*session, telegram.as_slice(), out, work),
-        Call::Announce { telegram, lot } => gateway.announce(telegram.as_slice(), *lot, out, work),
-        Call::HangUp { session } => gateway.hang_up(*session, out, work),
     }
 }

@@ -1,147 +1,111 @@
 // What a line says: a setting, a call, or one of the words beside them.
 use crate::faults::Fault;
-use crate::settings::{Cipher, Sealing, Setting};
+use crate::settings::Setting;
 use crate::words::Words;
+use gateway::Call;
 use std::alloc::Global;
 
 // The longest that a buffer can be made.
-pub const LONGEST_BUFFER: u64 = 65_536;
+const LONGEST_BUFFER: u32 = 65_536;
 
-#[derive(Drop)]
-pub enum Call {
-    Arrive {
-        frame: Vec<u8>,
-        offer: Vec<u8>,
-        lot: u32,
-    },
-    Pass {
-        milliseconds: u32,
-    },
-    Due {
-        lot: u32,
-    },
-    Send {
-        session: u16,
-        telegram: Vec<u8>,
-    },
-    Announce {
-        telegram: Vec<u8>,
-        lot: u32,
-    },
-    HangUp {
-        session: u16,
-    },
-}
-
-#[derive(Drop)]
-pub enum Item {
+#[derive(Clone, Copy)]
+pub enum Item<'a> {
     Setting(Setting),
     Make,
-    Call(Call),
+    Call(Call<'a>),
     Timer,
     Buffers { output: usize, work: usize },
     Book,
 }
 
+// The octets that a call lends; a call has two runs of them at most.
+#[derive(Drop)]
+pub struct Octets {
+    first: Vec<u8>,
+    second: Vec<u8>,
+}
+
+impl Octets {
+    pub fn none(heap: Global) -> Octets {
+        Octets {
+            first: Vec::new(heap),
+            second: Vec::new(heap),
+        }
+    }
+}
+
 // What a line says, or nothing where it has no word.
-pub fn read(heap: Global, line: &str) -> Result<Option<Item>, Fault> {
+pub fn read<'a>(line: &str, octets: &'a mut Octets) -> Result<Option<Item<'a>>, Fault> {
     let mut words = Words::of(line);
     let Some(name) = words.first() else {
         return Ok(None);
     };
-    let item = read_item(heap, name, &mut words)?;
+    let item = read_item(name, &mut words, octets)?;
     words.end()?;
     Ok(Some(item))
 }
 
-fn read_item(heap: Global, name: &str, words: &mut Words) -> Result<Item, Fault> {
-    match name {
-        "make" => Ok(Item::Make),
-        "timer" => Ok(Item::Timer),
-        "book" => Ok(Item::Book),
-        "buffers" => read_buffers(words),
-        _ => match read_call(heap, name, words)? {
-            Some(call) => Ok(Item::Call(call)),
-            None => Ok(Item::Setting(read_setting(heap, name, words)?)),
-        },
-    }
-}
-
-fn read_buffers(words: &mut Words) -> Result<Item, Fault> {
-    let output = words.number("output", LONGEST_BUFFER)?;
-    let work = words.number("work area", LONGEST_BUFFER)?;
-    Ok(Item::Buffers {
-        output: output as usize,
-        work: work as usize,
-    })
-}
-
-// A call, or nothing where the name is none of a call.
-fn read_call(heap: Global, name: &str, words: &mut Words) -> Result<Option<Call>, Fault> {
-    let call = match name {
-        "arrive" => Call::Arrive {
-            frame: words.octets(heap, "frame")?,
-            offer: words.octets(heap, "offer")?,
-            lot: words.number_32("lot")?,
-        },
-        "pass" => Call::Pass {
-            milliseconds: words.number_32("number of milliseconds")?,
-        },
-        "due" => Call::Due {
-            lot: words.number_32("lot")?,
-        },
-        "send" => Call::Send {
+fn read_item<'a>(name: &str, words: &mut Words, octets: &'a mut Octets) -> Result<Item<'a>, Fault> {
+    let Octets { first, second } = octets;
+    let item = match name {
+        "make" => Item::Make,
+        "timer" => Item::Timer,
+        "book" => Item::Book,
+        "buffers" => read_buffers(words)?,
+        "arrive" => Item::Call(Call::Arrive {
+            frame: words.octets("frame", first)?,
+            offer: words.octets("offer", second)?,
+            lot: words.number("lot", u32::MAX)?,
+        }),
+        "pass" => Item::Call(Call::Pass {
+            milliseconds: words.number("number of milliseconds", u32::MAX)?,
+        }),
+        "due" => Item::Call(Call::Due {
+            lot: words.number("lot", u32::MAX)?,
+        }),
+        "send" => Item::Call(Call::Send {
             session: words.session()?,
-            telegram: words.octets(heap, "telegram")?,
-        },
-        "announce" => Call::Announce {
-            telegram: words.octets(heap, "telegram")?,
-            lot: words.number_32("lot")?,
-        },
-        "hangup" => Call::HangUp {
+            telegram: words.octets("telegram", first)?,
+        }),
+        "announce" => Item::Call(Call::Announce {
+            telegram: words.octets("telegram", first)?,
+            lot: words.number("lot", u32::MAX)?,
+        }),
+        "hangup" => Item::Call(Call::HangUp {
             session: words.session()?,
-        },
-        _ => return Ok(None),
+        }),
+        _ => Item::Setting(read_setting(name, words, first)?),
     };
-    Ok(Some(call))
+    Ok(item)
 }
 
-fn read_setting(heap: Global, name: &str, words: &mut Words) -> Result<Setting, Fault> {
-    match name {
-        "cipher" => Ok(Setting::Cipher(read_cipher(words)?)),
-        "sealer" => Ok(Setting::Sealing(read_sealing(words)?)),
-        "serial" => Ok(Setting::Serial(words.array(heap, "serial")?)),
-        "device-code" => Ok(Setting::Device(words.array(heap, "device code")?)),
-        "group-key" => Ok(Setting::Group(words.array(heap, "group key")?)),
-        "user" => read_user(heap, words),
-        "start" => Ok(Setting::Start(words.number("start", u64::MAX)?)),
-        "tolerance" => Ok(Setting::Latency(words.number_32("latency tolerance")?)),
-        "sync" => Ok(Setting::Sync(words.number_32("sync tolerance")?)),
-        _ => Err(Fault::UnknownWord),
-    }
+fn read_buffers<'a>(words: &mut Words) -> Result<Item<'a>, Fault> {
+    let output = words.number("output", LONGEST_BUFFER)? as usize;
+    let work = words.number("work area", LONGEST_BUFFER)? as usize;
+    Ok(Item::Buffers { output, work })
 }
 
-fn read_cipher(words: &mut Words) -> Result<Cipher, Fault> {
-    match words.word("cipher")? {
-        "aes" => Ok(Cipher::Aes),
-        "bench" => Ok(Cipher::Bench),
-        _ => Err(Fault::NoSuchCipher),
-    }
+fn read_setting(name: &str, words: &mut Words, octets: &mut Vec<u8>) -> Result<Setting, Fault> {
+    let setting = match name {
+        "cipher" => Setting::Cipher(words.word("cipher")?.parse()?),
+        "sealer" => Setting::Sealing(words.word("sealer")?.parse()?),
+        "serial" => Setting::Serial(words.array("serial", octets)?),
+        "device-code" => Setting::Device(words.array("device code", octets)?),
+        "group-key" => Setting::Group(words.array("group key", octets)?),
+        "user" => read_user(words, octets)?,
+        "start" => Setting::Start(words.number("start", u64::MAX)?),
+        "tolerance" => Setting::Latency(words.number("latency tolerance", u32::MAX)?),
+        "sync" => Setting::Sync(words.number("sync tolerance", u32::MAX)?),
+        _ => return Err(Fault::UnknownWord),
+    };
+    Ok(setting)
 }
 
-fn read_sealing(words: &mut Words) -> Result<Sealing, Fault> {
-    match words.word("sealer")? {
-        "knx" => Ok(Sealing::Knx),
-        "reading" => Ok(Sealing::Reading),
-        _ => Err(Fault::NoSuchSealer),
-    }
-}
-
-fn read_user(heap: Global, words: &mut Words) -> Result<Setting, Fault> {
+fn read_user(words: &mut Words, octets: &mut Vec<u8>) -> Result<Setting, Fault> {
     let user = words.number("user", u64::MAX)?;
     if user < 1 || user > 8 {
         return Err(Fault::NoSuchUser);
     }
-    let hash = words.array(heap, "password hash")?;
-    Ok(Setting::User(user as u8, hash))
+    let hash = words.array("password hash", octets)?;
+    Ok(Setting::User(user as usize - 1, hash))
 }

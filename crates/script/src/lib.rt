@@ -11,10 +11,11 @@ mod station;
 mod words;
 
 use faults::{Fault, Stop};
+use items::Octets;
 use station::Station;
 use std::alloc::Global;
 use std::io::{BufRead, BufReader, BufWriter, Write};
-use std::{io, str};
+use std::str;
 
 // Carries out the script on standard input. Where a line cannot be read, standard error says which and why.
 pub fn run_standard(rt: &HostRuntime) -> Result<(), Stop> {
@@ -32,7 +33,10 @@ fn run_buffered(rt: &HostRuntime) -> Result<(), Stop> {
     run(heap, &mut input, &mut output)
 }
 
-fn before_any_line(error: io::Error) -> Stop {
+fn before_any_line<E>(error: E) -> Stop
+where
+    Fault: From<E>,
+{
     Stop {
         line: 0,
         why: error.into(),
@@ -42,18 +46,10 @@ fn before_any_line(error: io::Error) -> Stop {
 // Carries out a script to its end or to the first line that cannot be read. What a line prints is written out before the
 // next is read.
 pub fn run<R: BufRead, W: Write>(heap: Global, input: &mut R, output: &mut W) -> Result<(), Stop> {
-    let mut station = match Station::new(heap) {
-        Ok(station) => station,
-        Err(error) => return Err(Stop {
-            line: 0,
-            why: error.into(),
-        }),
-    };
+    let mut station = Station::new(heap).map_err(before_any_line)?;
     for line in 1..u64::MAX {
-        match carry_out_line(heap, &mut station, input, output) {
-            Ok(true) => {}
-            Ok(false) => break,
-            Err(why) => return Err(Stop { line, why }),
+        if !carry_out_line(heap, &mut station, input, output).map_err(|why| Stop { line, why })? {
+            break;
         }
     }
     Ok(())
@@ -70,13 +66,12 @@ fn carry_out_line<R: BufRead, W: Write>(
     if input.read_until(b'\n', &mut line)? == 0 {
         return Ok(false);
     }
-    if line.first() == Some(&b'#') {
+    if line.starts_with(b"#") {
         copy(line.as_slice(), output)?;
     } else {
-        let Ok(text) = str::from_utf8(line.as_slice()) else {
-            return Err(Fault::NotText);
-        };
-        if let Some(item) = items::read(heap, text)? {
+        let text = str::from_utf8(line.as_slice()).map_err(|_| Fault::NotText)?;
+        let mut octets = Octets::none(heap);
+        if let Some(item) = items::read(text, &mut octets)? {
             station.carry_out(item, output)?;
         }
     }
@@ -87,7 +82,7 @@ fn carry_out_line<R: BufRead, W: Write>(
 // A line as it stands; the last of a script may lack its line break.
 fn copy<W: Write>(line: &[u8], output: &mut W) -> Result<(), Fault> {
     output.write_all(line)?;
-    if line.last() != Some(&b'\n') {
+    if !line.ends_with(b"\n") {
         output.write_all(b"\n")?;
     }
     Ok(())

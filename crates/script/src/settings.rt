@@ -1,17 +1,45 @@
 // The settings that a script gives, up to the next making.
+use crate::faults::Fault;
 use cipher::Block;
 use rules::settings::{Settings, User};
+use std::str::FromStr;
 
-#[derive(Clone, Copy)]
+#[derive(Clone, Copy, Default)]
 pub enum Cipher {
+    #[default]
     Aes,
     Bench,
 }
 
-#[derive(Clone, Copy)]
+impl FromStr for Cipher {
+    type Err = Fault;
+
+    fn from_str(word: &str) -> Result<Cipher, Fault> {
+        match word {
+            "aes" => Ok(Cipher::Aes),
+            "bench" => Ok(Cipher::Bench),
+            _ => Err(Fault::NoSuchCipher),
+        }
+    }
+}
+
+#[derive(Clone, Copy, Default)]
 pub enum Sealing {
+    #[default]
     Knx,
     Reading,
+}
+
+impl FromStr for Sealing {
+    type Err = Fault;
+
+    fn from_str(word: &str) -> Result<Sealing, Fault> {
+        match word {
+            "knx" => Ok(Sealing::Knx),
+            "reading" => Ok(Sealing::Reading),
+            _ => Err(Fault::NoSuchSealer),
+        }
+    }
 }
 
 #[derive(Clone, Copy)]
@@ -21,14 +49,15 @@ pub enum Setting {
     Serial([u8; 6]),
     Device(Block),
     Group(Block),
-    // a user, 1 to 8, and the hash of the password
-    User(u8, Block),
+    // a user's place, that of user 1 being 0, and the hash of the password
+    User(usize, Block),
     Start(u64),
     Latency(u32),
     Sync(u32),
 }
 
-#[derive(Clone, Copy)]
+// The default stands where a script gives nothing.
+#[derive(Clone, Copy, Default)]
 pub struct Given {
     pub cipher: Cipher,
     pub sealing: Sealing,
@@ -36,27 +65,6 @@ pub struct Given {
 }
 
 impl Given {
-    // What stands where a script gives nothing.
-    pub fn none() -> Given {
-        let absent = User {
-            present: false,
-            hash: [0; 16],
-        };
-        Given {
-            cipher: Cipher::Aes,
-            sealing: Sealing::Knx,
-            settings: Settings {
-                serial: [0; 6],
-                device: [0; 16],
-                group: [0; 16],
-                users: [absent; 8],
-                start: 0,
-                latency: 0,
-                sync: 0,
-            },
-        }
-    }
-
     // Of two settings of a kind the later one counts.
     pub fn take(&mut self, setting: Setting) {
         let settings = &mut self.settings;
@@ -66,20 +74,17 @@ impl Given {
             Setting::Serial(serial) => settings.serial = serial,
             Setting::Device(device) => settings.device = device,
             Setting::Group(group) => settings.group = group,
-            Setting::User(user, hash) => admit(&mut settings.users, user, hash),
+            Setting::User(place, hash) => {
+                if let Some(user) = settings.users.get_mut(place) {
+                    *user = User {
+                        present: true,
+                        hash,
+                    };
+                }
+            }
             Setting::Start(start) => settings.start = start,
             Setting::Latency(latency) => settings.latency = latency,
             Setting::Sync(sync) => settings.sync = sync,
         }
-    }
-}
-
-// Users are 1 to 8: no other is read.
-fn admit(users: &mut [User; 8], user: u8, hash: Block) {
-    if user >= 1 && user <= 8 {
-        users[user as usize - 1] = User {
-            present: true,
-            hash,
-        };
     }
 }

@@ -1,13 +1,15 @@
 // A gateway with its buffers and its book, as a script works on it.
-use crate::answers;
+use crate::answers::Answered;
 use crate::book::Book;
 use crate::faults::Fault;
 use crate::gateways::AnyGateway;
-use crate::items::{Call, Item};
+use crate::items::Item;
 use crate::settings::Given;
+use gateway::Call;
+use rules::answers::{Answer, Refusal};
 use std::alloc::{AllocError, Global};
-use std::io;
 use std::io::Write;
+use std::{io, mem};
 
 // How long output and work area are until a script says otherwise.
 const FIRST_BUFFER: usize = 512;
@@ -26,7 +28,7 @@ impl Station {
         let out = vec![in heap; 0; FIRST_BUFFER]?;
         let work = vec![in heap; 0; FIRST_BUFFER]?;
         Ok(Station {
-            given: Given::none(),
+            given: Given::default(),
             gateway: None,
             book: Book::new(heap),
             out,
@@ -38,7 +40,7 @@ impl Station {
         match item {
             Item::Setting(setting) => self.given.take(setting),
             Item::Make => self.make(output)?,
-            Item::Call(call) => self.call(&call, output)?,
+            Item::Call(call) => self.call(call, output)?,
             Item::Timer => self.print_timer(output)?,
             Item::Buffers { output, work } => {
                 self.out.resize(output, 0)?;
@@ -51,50 +53,50 @@ impl Station {
 
     // Uses up the settings, also where it is refused; then there is no gateway.
     fn make<W: Write>(&mut self, output: &mut W) -> io::Result<()> {
-        let made = AnyGateway::make(&self.given);
-        self.given = Given::none();
+        let given = mem::take(&mut self.given);
         self.book.clear();
-        match made {
+        match AnyGateway::make(&given) {
             Ok(gateway) => {
                 self.gateway = Some(gateway);
                 writeln!(output, "made")
             }
             Err(refusal) => {
                 self.gateway = None;
-                answers::print(Err(refusal), &[], output)
+                print_answer(Err(refusal), &[], output)
             }
         }
     }
 
-    fn call<W: Write>(&mut self, call: &Call, output: &mut W) -> Result<(), Fault> {
-        let Some(gateway) = self.gateway.take() else {
-            return Err(Fault::NoGateway);
-        };
+    fn call<W: Write>(&mut self, call: Call, output: &mut W) -> Result<(), Fault> {
+        let gateway = self.gateway.as_mut().ok_or(Fault::NoGateway)?;
         let out = self.out.as_mut_slice();
-        let work = self.work.as_mut_slice();
-        let (gateway, answered) = gateway.carry_out(call, out, work);
-        self.gateway = Some(gateway);
-        if let Ok(answer) = answered {
+        let answer = gateway.carry_out(call, out, self.work.as_mut_slice());
+        if let Ok(answer) = answer {
             self.book.enter(answer)?;
         }
-        answers::print(answered, self.out.as_slice(), output)?;
+        print_answer(answer, self.out.as_slice(), output)?;
         Ok(())
     }
 
     fn print_timer<W: Write>(&self, output: &mut W) -> Result<(), Fault> {
-        let Some(gateway) = &self.gateway else {
-            return Err(Fault::NoGateway);
-        };
-        let timer = gateway.timer();
+        let timer = self.gateway.as_ref().ok_or(Fault::NoGateway)?.timer();
         writeln!(output, "timer {timer}")?;
         Ok(())
     }
 
     fn print_book<W: Write>(&self, output: &mut W) -> Result<(), Fault> {
-        if self.gateway.is_none() {
-            return Err(Fault::NoGateway);
-        }
-        self.book.print(output)?;
+        self.gateway.as_ref().ok_or(Fault::NoGateway)?;
+        let book = &self.book;
+        write!(output, "{book}")?;
         Ok(())
     }
+}
+
+fn print_answer<W: Write>(
+    answer: Result<Answer, Refusal>,
+    out: &[u8],
+    output: &mut W,
+) -> io::Result<()> {
+    let answered = Answered { answer, out };
+    writeln!(output, "{answered}")
 }

@@ -1,9 +1,9 @@
 // The words of a line, read one by one as what they stand for.
-ghost use Rattle.std.specs.Prelude.{◌≤◌, IfOk};
+ghost use Rattle.std.specs.Ordering.{partial_le};
+ghost use Rattle.std.specs.Prelude.{◌≡◌, IfOk, true};
 
 use crate::faults::Fault;
-use std::alloc::Global;
-use std::str::SplitAsciiWhitespace;
+use std::str::{FromStr, SplitAsciiWhitespace};
 
 #[derive(Drop)]
 pub struct Words<'a> {
@@ -23,10 +23,7 @@ impl<'a> Words<'a> {
     }
 
     pub fn word(&mut self, part: &'static str) -> Result<&'a str, Fault> {
-        match self.rest.next() {
-            Some(word) => Ok(word),
-            None => Err(Fault::Missing(part)),
-        }
+        self.rest.next().ok_or(Fault::Missing(part))
     }
 
     pub fn end(&mut self) -> Result<(), Fault> {
@@ -36,83 +33,66 @@ impl<'a> Words<'a> {
         }
     }
 
-    // Digits alone, without a sign.
-    pub fn number(&mut self, part: &'static str, most: u64) -> Result<u64, Fault>
-        ensures { IfOk result (λ n. n ≤ most) }
+    // Digits alone, without a sign; a number of any width.
+    pub fn number<T: FromStr + PartialOrd + Copy>(
+        &mut self,
+        part: &'static str,
+        most: T,
+    ) -> Result<T, Fault>
+    where
+        T::Err: Drop,
+        u64: From<T>,
+        ensures { IfOk result (λ n. partial_le T.partial_cmp n most ≡ true) }
     {
         let word = self.word(part)?;
-        for letter in word.bytes() {
-            if !letter.is_ascii_digit() {
-                return Err(Fault::NotNumber(part));
-            }
+        if !word.bytes().all(|letter| letter.is_ascii_digit()) {
+            return Err(Fault::NotNumber(part));
         }
-        match word.parse::<u64>() {
-            Ok(read) if read <= most => Ok(read),
-            _ => Err(Fault::TooLarge(part, most)),
-        }
+        word.parse::<T>()
+            .ok()
+            .filter(|read| *read <= most)
+            .ok_or(Fault::TooLarge(part, u64::from(most)))
     }
 
-    // A number of 32 bits.
-    pub fn number_32(&mut self, part: &'static str) -> Result<u32, Fault> {
-        let read = self.number(part, u32::MAX as u64)?;
-        Ok(read as u32)
-    }
-
-    pub fn octets(&mut self, heap: Global, part: &'static str) -> Result<Vec<u8>, Fault> {
+    // Octets, two digits each, into a buffer; `-` stands for none.
+    pub fn octets<'b>(
+        &mut self,
+        part: &'static str,
+        octets: &'b mut Vec<u8>,
+    ) -> Result<&'b [u8], Fault> {
         let word = self.word(part)?;
-        let mut octets = Vec::new(heap);
-        if word == "-" {
-            return Ok(octets);
-        }
-        for pair in word.as_bytes().chunks(2) {
+        let digits = if word == "-" { "" } else { word };
+        octets.clear();
+        for pair in digits.as_bytes().chunks(2) {
             let [high, low] = pair else {
                 return Err(Fault::HalfOctet(part));
             };
-            let Some(read) = octet(*high, *low) else {
-                return Err(Fault::NotOctets(part));
-            };
-            octets.push(read)?;
+            octets.push(octet(*high, *low).ok_or(Fault::NotOctets(part))?)?;
         }
-        Ok(octets)
+        Ok(octets.as_slice())
     }
 
     // Exactly N octets.
     pub fn array<const N: usize>(
         &mut self,
-        heap: Global,
         part: &'static str,
+        octets: &mut Vec<u8>,
     ) -> Result<[u8; N], Fault> {
-        let read = self.octets(heap, part)?;
-        match <[u8; N]>::try_from(read.as_slice()) {
-            Ok(octets) => Ok(octets),
-            Err(_) => Err(Fault::WrongLength(part, N)),
-        }
+        <[u8; N]>::try_from(self.octets(part, octets)?).map_err(|_| Fault::WrongLength(part, N))
     }
 
     pub fn session(&mut self) -> Result<u16, Fault> {
-        let [a, b, c, d] = self.word("session")?.as_bytes() else {
+        let word = self.word("session")?;
+        if word.len() != 4 || !word.bytes().all(|letter| letter.is_ascii_hexdigit()) {
             return Err(Fault::NotSession);
-        };
-        match (octet(*a, *b), octet(*c, *d)) {
-            (Some(high), Some(low)) => Ok(u16::from_be_bytes([high, low])),
-            _ => Err(Fault::NotSession),
         }
+        u16::from_str_radix(word, 16).map_err(|_| Fault::NotSession)
     }
 }
 
+// Two hexadecimal digits, in capitals or not.
 fn octet(high: u8, low: u8) -> Option<u8> {
-    match (digit(high), digit(low)) {
-        (Some(high), Some(low)) => Some(high << 4 | low),
-        _ => None,
-    }
-}
-
-// The value of a hexadecimal digit, in capitals or not.
-fn digit(letter: u8) -> Option<u8> {
-    match letter {
-        b'0'..=b'9' => Some(letter - b'0'),
-        b'A'..=b'F' => Some(letter - b'A' + 10),
-        b'a'..=b'f' => Some(letter - b'a' + 10),
-        _ => None,
-    }
+    let high = char::from(high).to_digit(16)?;
+    let low = char::from(low).to_digit(16)?;
+    u8::try_from(high << 4 | low).ok()
 }

@@ -2,22 +2,23 @@ use std::alloc::Global;
 use std::process::Abort;
 use std::test::Fail;
 
-// Carries out a script, and holds what it prints and how it ends to what is expected; an empty end is a good one.
+// Carries out a script, and holds what it prints and how it ends to what is expected; it goes to its last line where nothing is said.
 pub fn expect(
     rt: &impl Abort,
     heap: Global,
     script: &str,
     printed: &str,
-    end: &str,
+    end: Option<&str>,
 ) -> Result<(), Fail> {
     let mut input = script.as_bytes();
     let mut output = Vec::new(heap);
     let ended = match script::run(heap, &mut input, &mut output) {
-        Ok(()) => String::new(heap),
-        Err(stop) => stop.to_string(heap)?,
+        Ok(()) => None,
+        Err(stop) => Some(stop.to_string(heap)?),
     };
+    let ended = ended.as_ref().map(|said| said.as_str());
     assert!(rt; output.as_slice() == printed.as_bytes(), "{script}");
-    assert!(rt; ended.as_str() == end, "{ended}");
+    assert!(rt; ended == end, "{ended:?}");
     Ok(())
 }
 
@@ -69,12 +70,16 @@ sync x => the sync tolerance is not a decimal number";
 fn lines_that_cannot_be_read(rt: HostRuntime) -> Result<(), Fail> {
     let heap = rt.alloc();
     for row in UNREADABLE.lines() {
-        let Some((line, why)) = row.split_once(" => ") else {
-            return Err(Fail::new("no row"));
-        };
+        let (line, why) = row.split_once(" => ").ok_or("no row")?;
         let script = format!(in heap; "make\n\n# wrong:\n{line}\ntimer\n")?;
         let end = format!(in heap; "line 4: {why}")?;
-        expect(&rt, heap, script.as_str(), "made\n# wrong:\n", end.as_str())?;
+        expect(
+            &rt,
+            heap,
+            script.as_str(),
+            "made\n# wrong:\n",
+            Some(end.as_str()),
+        )?;
     }
     Ok(())
 }
@@ -96,27 +101,27 @@ fn a_line_that_is_not_text(rt: HostRuntime) -> Result<(), Fail> {
 #[test]
 fn lines_that_can(rt: HostRuntime) -> Result<(), Fail> {
     let heap = rt.alloc();
-    expect(&rt, heap, "", "", "")?;
+    expect(&rt, heap, "", "", None)?;
     expect(
         &rt,
         heap,
         "\n  \n\t\r\n# no gateway\n",
         "# no gateway\n",
-        "",
+        None,
     )?;
     expect(
         &rt,
         heap,
         "start  007\t\r\n make \r\ntimer",
         "made\ntimer 7\n",
-        "",
+        None,
     )?;
-    expect(&rt, heap, "# a\r\n#b", "# a\r\n#b\n", "")?;
+    expect(&rt, heap, "# a\r\n#b", "# a\r\n#b\n", None)?;
     expect(
         &rt,
         heap,
         "make\narrive 0610 - 4294967295\nhangup ffff\nsend FfFf 06\nbook\n",
         "made\nrefused 2\nrefused 6\nrefused 6\n",
-        "",
+        None,
     )
 }

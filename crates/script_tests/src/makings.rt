@@ -19,7 +19,7 @@ fn calls_without_a_gateway(rt: HostRuntime) -> Result<(), Fail> {
     for call in calls {
         let before = format!(in heap; "buffers 512 512\n{call}\n")?;
         let end = format!(in heap; "line 2: {NONE}")?;
-        expect(&rt, heap, before.as_str(), "", end.as_str())?;
+        expect(&rt, heap, before.as_str(), "", Some(end.as_str()))?;
         let refused = format!(in heap; "make\ntolerance 10001\nmake\n{call}\n")?;
         let end = format!(in heap; "line 4: {NONE}")?;
         expect(
@@ -27,7 +27,7 @@ fn calls_without_a_gateway(rt: HostRuntime) -> Result<(), Fail> {
             heap,
             refused.as_str(),
             "made\nrefused 14\n",
-            end.as_str(),
+            Some(end.as_str()),
         )?;
     }
     Ok(())
@@ -73,7 +73,7 @@ fn settings_and_buffers(rt: HostRuntime) -> Result<(), Fail> {
     ];
     let heap = rt.alloc();
     for (script, printed) in table {
-        expect(&rt, heap, script, printed, "")?;
+        expect(&rt, heap, script, printed, None)?;
     }
     Ok(())
 }

@@ -2,6 +2,7 @@
 use cipher::aes::{Aes128, RoundKeys};
 use cipher::{Block, BlockCipher};
 use octets::hex::Hex;
+use published::fips::KEY_A1;
 use std::time::Instant;
 
 const MEBIBYTES: u32 = 64;
@@ -15,12 +16,8 @@ fn encipher_often(prepared: &RoundKeys, block: &mut Block, times: u32) {
 }
 
 pub fn measure_aes(rt: &HostRuntime) -> anyhow::Result<()> {
-    let key = [
-        0x2b, 0x7e, 0x15, 0x16, 0x28, 0xae, 0xd2, 0xa6, 0xab, 0xf7, 0x15, 0x88, 0x09, 0xcf, 0x4f,
-        0x3c,
-    ];
     let mut block = [0; 16];
-    let prepared = Aes128::prepare(&key);
+    let prepared = Aes128::prepare(KEY_A1);
     let start = Instant::now(rt)?;
     encipher_often(&prepared, &mut block, BLOCKS);
     let seconds = start.elapsed(rt)?.as_secs_f64();

@@ -1,13 +1,11 @@
 // How fast the KNX sealer over AES-128 is: a telegram sealed and opened again and again.
-use anyhow::anyhow;
-use cipher::Block;
+use anyhow::ensure;
 use cipher::aes::Aes128;
 use octets::hex::Hex;
+use published::fips::KEY_A1;
 use sealer::sealers::Knx;
 use sealer::{Nonce, Sealer};
 use std::time::Instant;
-
-const KEY: &Block = b"\x2b\x7e\x15\x16\x28\xae\xd2\xa6\xab\xf7\x15\x88\x09\xcf\x4f\x3c";
 
 const START: &[u8; 8] = b"\x06\x10\x09\x50\x00\x3e\x00\x01";
 
@@ -20,8 +18,8 @@ fn seal_often(nonce: &mut Nonce, text: &mut [u8]) -> bool {
         return false;
     }
     for _ in 0..ROUNDS {
-        let mac = Knx::<Aes128>::seal(KEY, nonce, START, text);
-        opened &= Knx::<Aes128>::open(KEY, nonce, START, text, &mac);
+        let mac = Knx::<Aes128>::seal(KEY_A1, nonce, START, text);
+        opened &= Knx::<Aes128>::open(KEY_A1, nonce, START, text, &mac);
         nonce.copy_from_slice(&mac[0..14]);
     }
     opened
@@ -30,9 +28,10 @@ fn seal_often(nonce: &mut Nonce, text: &mut [u8]) -> bool {
 fn measure_length(rt: &HostRuntime, text: &mut [u8]) -> anyhow::Result<()> {
     let mut nonce = [0; 14];
     let start = Instant::now(rt)?;
-    if !seal_often(&mut nonce, text) {
-        return Err(anyhow!("a sealed telegram did not open"));
-    }
+    ensure!(
+        seal_often(&mut nonce, text),
+        "a sealed telegram did not open"
+    );
     let seconds = start.elapsed(rt)?.as_secs_f64();
     let rate = f64::from(2 * ROUNDS) / seconds;
     let length = text.len();

@@ -1,10 +1,11 @@
 // The two block ciphers at work.
 use crate::show;
-use anyhow::anyhow;
+use anyhow::Context;
 use cipher::aes::Aes128;
 use cipher::bench::Bench;
 use cipher::encipher_once;
 use frames::sealing::seal_notice;
+use frames::stamps::Stamp;
 use published::fips;
 use sealer::sealers::Knx;
 
@@ -23,9 +24,11 @@ pub fn show_notice_mac(rt: &HostRuntime) -> anyhow::Result<()> {
         "timer notify of time 5, serial 00FA00000001, tag 0007, bench cipher, key of sixteen 11"
     )?;
     let mut out = [0; 36];
-    let sealed = seal_notice::<Knx<Bench>>(&[0x11; 16], 5, 0x00fa_0000_0001, 7, &mut out);
-    if sealed.is_none() {
-        return Err(anyhow!("no room for a timer notify"));
-    }
+    let stamp = Stamp {
+        number: 5,
+        serial: 0x00fa_0000_0001,
+        tag: 7,
+    };
+    seal_notice::<Knx<Bench>>(&[0x11; 16], stamp, &mut out).context("no room for a timer notify")?;
     show(rt, "frame", &out)
 }

@@ -15,12 +15,8 @@ fn show(rt: &HostRuntime, what: &str, octets: &[u8]) -> anyhow::Result<()> {
     Ok(())
 }
 
-fn run(rt: &HostRuntime) -> anyhow::Result<()> {
-    show_worked_example(rt)?;
-    show_notice_mac(rt)?;
-    show_session(rt)
-}
-
 fn main(rt: HostRuntime) -> anyhow::Result<()> {
-    run(&rt)
+    show_worked_example(&rt)?;
+    show_notice_mac(&rt)?;
+    show_session(&rt)
 }

@@ -1,10 +1,10 @@
 // The KNX sample session: each frame as the gateway reads or writes it.
 use crate::show;
-use anyhow::anyhow;
+use anyhow::{Context, ensure};
 use cipher::aes::Aes128;
-use frames::reading::{Frame, read};
+use frames::reading::{Frame, Notice, Wrapper, read};
 use frames::sealing::{mac_of_authenticate, seal_response};
-use frames::telegrams::{Telegram, authenticate, classify};
+use frames::telegrams::{SignIn, Telegram, authenticate, classify};
 use octets::runs::put;
 use published::knx;
 use sealer::Sealer;
@@ -17,33 +17,26 @@ fn show_frame(rt: &HostRuntime, frame: &[u8]) -> anyhow::Result<()> {
             println!(rt; "session request")?;
             show(rt, "X", x)
         }
-        Ok(
-            Frame::Wrapper {
+        Ok(Frame::Wrapper(wrapper)) => {
+            let Wrapper {
                 session,
-                number,
-                serial,
-                tag,
+                stamp,
                 ciphertext,
                 mac,
                 ..
-            },
-        ) => {
+            } = wrapper;
             println!(rt;
-                "secure wrapper of session {session}, number {number}, serial {serial:012X}, tag {tag:04X}"
+                "secure wrapper of session {session}, number {}, serial {:012X}, tag {:04X}",
+                stamp.number, stamp.serial, stamp.tag
             )?;
             show(rt, "ciphertext", ciphertext)?;
             show(rt, "MAC", mac)
         }
-        Ok(
-            Frame::Notice {
-                time,
-                serial,
-                tag,
-                mac,
-                ..
-            },
-        ) => {
-            println!(rt; "timer notify of time {time}, serial {serial:012X}, tag {tag:04X}")?;
+        Ok(Frame::Notice(Notice { stamp, mac, .. })) => {
+            println!(rt;
+                "timer notify of time {}, serial {:012X}, tag {:04X}",
+                stamp.number, stamp.serial, stamp.tag
+            )?;
             show(rt, "MAC", mac)
         }
         Err(why) => {
@@ -64,23 +57,21 @@ fn show_request(rt: &HostRuntime) -> anyhow::Result<()> {
 fn show_response(rt: &HostRuntime) -> anyhow::Result<()> {
     println!(rt; "session response of session 1")?;
     let mut response = [0; 56];
-    let sealed = seal_response::<Knx<Aes128>>(knx::DEVICE_CODE, 1, knx::X, knx::Y, &mut response);
-    if sealed.is_none() {
-        return Err(anyhow!("no room for a session response"));
-    }
+    seal_response::<Knx<Aes128>>(knx::DEVICE_CODE, 1, knx::X, knx::Y, &mut response).context(
+        "no room for a session response",
+    )?;
     show(rt, "made", &response)?;
     show(rt, "published", knx::RESPONSE)
 }
 
 fn show_telegram(rt: &HostRuntime, telegram: &[u8]) -> anyhow::Result<()> {
-    let Telegram::Authenticate = classify(telegram) else {
-        return Err(anyhow!("no session authenticate"));
-    };
-    let Some(sign_in) = authenticate(telegram) else {
-        return Err(anyhow!("a session authenticate that is not well formed"));
-    };
-    let user = sign_in.user;
-    let mac = sign_in.mac;
+    ensure!(
+        classify(telegram) == Telegram::Authenticate,
+        "no session authenticate"
+    );
+    let SignIn { user, mac } = authenticate(telegram).context(
+        "a session authenticate that is not well formed",
+    )?;
     let wanted = mac_of_authenticate::<Knx<Aes128>>(knx::PASSWORD_HASH, user, knx::X, knx::Y);
     let right = same_mac(&wanted, mac);
     println!(rt; "session authenticate of user {user}, MAC right: {right}")?;
@@ -90,15 +81,14 @@ fn show_telegram(rt: &HostRuntime, telegram: &[u8]) -> anyhow::Result<()> {
 fn show_sign_in(rt: &HostRuntime) -> anyhow::Result<()> {
     show_frame(rt, knx::WRAPPER)?;
     let mut text = *knx::WRAPPER_CIPHERTEXT;
-    if !Knx::<Aes128>::open(
+    let opened = Knx::<Aes128>::open(
         knx::SESSION_KEY,
         knx::WRAPPER_NONCE,
         knx::WRAPPER_START,
         &mut text,
         knx::WRAPPER_MAC,
-    ) {
-        return Err(anyhow!("the wrapper does not open"));
-    }
+    );
+    ensure!(opened, "the wrapper does not open");
     show_telegram(rt, &text)?;
     let mac = Knx::<Aes128>::seal(
         knx::SESSION_KEY,

@@ -6,7 +6,7 @@ mod sealing;
 
 ghost use Rattle.vectors.specs.Examples.{ExampleVector, WorkedExample};
 
-use anyhow::anyhow;
+use anyhow::{bail, ensure};
 use ciphers::try_aes;
 use octets::hex::Hex;
 use sealing::try_knx;
@@ -23,21 +23,14 @@ fn compare(rt: &HostRuntime, name: &str, made: &[u8], published: &[u8]) -> anyho
     let shown = Hex(made);
     if made != published {
         println!(rt; "{name}: {shown} is not what is published")?;
-        return Err(anyhow!("a vector failed"));
+        bail!("a vector failed");
     }
     println!(rt; "{name}: {shown}")?;
     Ok(())
 }
 
-fn run(rt: &HostRuntime) -> anyhow::Result<()> {
-    let mut words = env::args(rt)?.skip(1);
-    if words.next().is_some() {
-        return Err(anyhow!("vectors takes no words"));
-    }
-    try_aes(rt)?;
-    try_knx(rt)
-}
-
 fn main(rt: HostRuntime) -> anyhow::Result<()> {
-    run(&rt)
+    ensure!(env::args(&rt)?.nth(1).is_none(), "vectors takes no words");
+    try_aes(&rt)?;
+    try_knx(&rt)
 }

@@ -1,6 +1,6 @@
 // The KNX sealer over AES-128 against the KNX sample session.
 use crate::compare;
-use anyhow::anyhow;
+use anyhow::bail;
 use cipher::Block;
 use cipher::aes::Aes128;
 use octets::runs::{put, xor_into};
@@ -47,8 +47,8 @@ fn try_sealing(rt: &HostRuntime) -> anyhow::Result<()> {
     compare(rt, "secure wrapper, MAC", &mac, knx::WRAPPER_MAC)
 }
 
-// Opens the sample wrapper with a MAC, and gives what is left in the buffer with the answer.
-fn opened(mac: &Block) -> ([u8; 24], bool) {
+// Opens the sample wrapper with a MAC: the telegram, or what is left in the buffer.
+fn opened(mac: &Block) -> Result<[u8; 24], [u8; 24]> {
     let mut text = *knx::WRAPPER_CIPHERTEXT;
     let yes = Knx::<Aes128>::open(
         knx::SESSION_KEY,
@@ -57,22 +57,20 @@ fn opened(mac: &Block) -> ([u8; 24], bool) {
         &mut text,
         mac,
     );
-    (text, yes)
+    if yes { Ok(text) } else { Err(text) }
 }
 
 fn try_opening(rt: &HostRuntime) -> anyhow::Result<()> {
-    let (text, yes) = opened(knx::WRAPPER_MAC);
-    if !yes {
-        return Err(anyhow!("the secure wrapper does not open"));
-    }
-    compare(rt, "secure wrapper, opened", &text, knx::AUTHENTICATE)?;
+    let Ok(telegram) = opened(knx::WRAPPER_MAC) else {
+        bail!("the secure wrapper does not open");
+    };
+    compare(rt, "secure wrapper, opened", &telegram, knx::AUTHENTICATE)?;
     let mut damaged = *knx::WRAPPER_MAC;
     damaged[15] ^= 1;
-    let (text, yes) = opened(&damaged);
-    if yes {
-        return Err(anyhow!("a damaged wrapper opens"));
-    }
-    compare(rt, "damaged wrapper, refused and cleared", &text, &[0; 24])
+    let Err(left) = opened(&damaged) else {
+        bail!("a damaged wrapper opens");
+    };
+    compare(rt, "damaged wrapper, refused and cleared", &left, &[0; 24])
 }
 
 pub fn try_knx(rt: &HostRuntime) -> anyhow::Result<()> {
