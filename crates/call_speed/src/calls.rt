@@ -1,4 +1,6 @@
 // How fast arrive is over the KNX sealer and AES-128: wrappers that are delivered and wrappers that are refused.
+ghost use Rattle.std.specs.Prelude.{◌≤◌};
+
 use anyhow::{anyhow, bail};
 use cipher::aes::Aes128;
 use frames::sealing::{mac_of_authenticate, seal_wrapper};
@@ -154,7 +156,9 @@ fn measure_deliveries<const N: usize>(
     session: u16,
     batches: u32,
     what: &str,
-) -> anyhow::Result<()> {
+) -> anyhow::Result<()>
+    requires { N ≤ 512 }
+{
     let mut batch = [[0; N]; BATCH];
     let mut seconds = 0.0;
     for _ in 0..batches {
