@@ -3,6 +3,3 @@ use Rattle.gateway.proofs.gateway.Gateway.announce.Goals as goal
 
 pub announce-requires : goal.announce-requires
 announce-requires g c = ready c.args.self.now.core c.args.self.now.ready
-
-pub invariant_of-self : goal.invariant_of-self
-invariant_of-self g c = record { ready = ∣ c.announce.ensures.ready ∣₁ }

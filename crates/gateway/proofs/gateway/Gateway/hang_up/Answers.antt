@@ -3,6 +3,3 @@ use Rattle.gateway.proofs.gateway.Gateway.hang_up.Goals as goal
 
 pub hang_up-requires : goal.hang_up-requires
 hang_up-requires g c = ready c.args.self.now.core c.args.self.now.ready
-
-pub invariant_of-self : goal.invariant_of-self
-invariant_of-self g c = record { ready = ∣ c.hang_up.ensures.ready ∣₁ }

@@ -3,6 +3,3 @@ use Rattle.gateway.proofs.gateway.Gateway.pass.Goals as goal
 
 pub pass-requires : goal.pass-requires
 pass-requires g c = ready c.args.self.now.core c.args.self.now.ready
-
-pub invariant_of-self : goal.invariant_of-self
-invariant_of-self g c = record { ready = ∣ c.pass.ensures.ready ∣₁ }
