@@ -28,7 +28,8 @@ const WRAPPER: &[u8] = b"\
     \x00\x00\x00\x02\x00\x07\x01\x10\xc3\xdc\x4f\xa6\xff\x0c\x40\xe3\
     \xcd\xe9\x33\xed\xbd\x95\x64\x11\x3c\xa6\x47\xe3";
 
-// What a frame is refused with, one of whose octets is changed: the header, the session of a wrapper, then the MAC.
+// What a frame is refused with, one of whose octets is changed: the header, the session of a wrapper, then the MAC. Tests have refusals
+// by the numbers that a host sees.
 fn refusal(at: usize, wrapper: bool) -> Seen {
     match at {
         0 | 1 | 4 | 5 => Refused(2),
@@ -39,6 +40,7 @@ fn refusal(at: usize, wrapper: bool) -> Seen {
 }
 
 fn damage(line: &mut Line<Knx<Aes128>>, frame: &'static [u8], wrapper: bool) -> Result<(), Fail> {
+    // by place, since a step names the octet that it changes by its place
     for at in 0..frame.len() {
         line.see(&Changed(frame, at, 0x80), &refusal(at, wrapper))?;
     }

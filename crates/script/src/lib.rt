@@ -47,6 +47,7 @@ where
 // next is read.
 pub fn run<R: BufRead, W: Write>(heap: Global, input: &mut R, output: &mut W) -> Result<(), Stop> {
     let mut station = Station::new(heap).map_err(before_any_line)?;
+    // the number is wanted where a line cannot be read, and a loop that reads to an end has to have a bound
     for line in 1..u64::MAX {
         if !carry_out_line(heap, &mut station, input, output).map_err(|why| Stop { line, why })? {
             break;

@@ -26,6 +26,7 @@ impl<'a> Words<'a> {
         self.rest.next().ok_or(Fault::Missing(part))
     }
 
+    // By cases, since here it is good that there is none.
     pub fn end(&mut self) -> Result<(), Fault> {
         match self.rest.next() {
             Some(_) => Err(Fault::Surplus),

@@ -11,7 +11,7 @@ const START: &[u8; 8] = b"\x06\x10\x09\x50\x00\x3e\x00\x01";
 
 const ROUNDS: u32 = 40_000;
 
-// Each MAC is part of the next nonce, so that no turn can be left out.
+// Each MAC is part of the next nonce, so that no turn can be left out. The flag is gathered, since a way out of the loop would be measured too.
 fn seal_often(nonce: &mut Nonce, text: &mut [u8]) -> bool {
     let mut opened = true;
     if text.len() > sealer::LARGEST_TELEGRAM {
