@@ -5,5 +5,6 @@ ghost use Rattle.rules.specs.Limits.{slots};
 #[derive(Clone, Copy)]
 pub struct Place {
     pub index: usize,
-    ghost within: { index < slots },
+    // it lies in the table
+    pub ghost within: { index < slots },
 }

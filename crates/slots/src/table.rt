@@ -1,7 +1,7 @@
 // The table, changed one row at a time.
-ghost use Rattle.std.specs.Prelude.{◌≡◌, ℕ, ◌<◌, map, length, IfSome, Some, None, MatchOption, slice_set};
+ghost use Rattle.std.specs.Prelude.{◌≡◌, ◌<◌, map, length, IfSome, Some, None, MatchOption, slice_set};
 ghost use Rattle.rules.specs.Limits.{session_numbers, slots};
-ghost use Rattle.slots.specs.Lapses.{Lapses, least, or_at, precedes};
+ghost use Rattle.slots.specs.Lapses.{Lapses, least, precedes};
 ghost use Rattle.slots.specs.Rows.{Distinct, free_row, look_up, row, session_of, waited_row};
 ghost use Rattle.slots.specs.Places.{index_of};
 ghost use Rattle.slots.specs.Tables.{Empty, Finds, Frees, Puts, Waits};

@@ -4,7 +4,7 @@ use Rattle.octets.specs.Runs.{number}
 use Rattle.frames.specs.Headers.{part}
 use Rattle.steps.specs.declared.requests.Offer.{Offer}
 
--- fifty octets, for a session other than 0
+-- fifty octets, for a session other than 0; the parts are written out, since the rules' own words for them are under settings and a sealer, and reading an offer has neither
 abbrev pub well_offered : List ℕ → Bool
 well_offered octets = length octets == 50 && not (number 2 0 octets == 0)
 

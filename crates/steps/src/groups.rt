@@ -2,7 +2,6 @@
 ghost use Rattle.rules.specs.Meaning.{meaning};
 ghost use Rattle.std.specs.Prelude.{◌≡◌, ◌<◌, ◌≤◌, [], length};
 ghost use Rattle.frames.specs.Sealing.{wrapper};
-ghost use Rattle.octets.specs.Runs.{over};
 ghost use Rattle.rules.specs.GroupTime.{heard, next_time, tag_of, within};
 ghost use Rattle.rules.specs.Limits.{numbers};
 ghost use Rattle.rules.specs.Making.{latency, own_serial};

@@ -1,6 +1,6 @@
 // Session requests.
 ghost use Rattle.rules.specs.Meaning.{meaning};
-ghost use Rattle.std.specs.Prelude.{◌≡◌, ◌≤◌, length, Ok};
+ghost use Rattle.std.specs.Prelude.{◌≡◌, length, Ok};
 ghost use Rattle.frames.specs.Writing.{no_session};
 ghost use Rattle.octets.specs.Runs.{over};
 ghost use Rattle.rules.specs.declared.answers.Answer.TheVariants as answer;

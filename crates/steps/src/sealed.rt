@@ -1,4 +1,5 @@
 // Frames that go out, into an output that has the room for every frame.
+// That a telegram is small enough stays a clause here and in callers: a type for it would wrap a lent slice at each call and say the same once more.
 ghost use Rattle.rules.specs.Meaning.{meaning};
 ghost use Rattle.std.specs.Prelude.{◌≡◌, ◌≤◌, length, Ok};
 ghost use Rattle.frames.specs.Sealing.{sealed_notice, sealed_response, wrapper};

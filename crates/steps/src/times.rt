@@ -1,6 +1,5 @@
 // What time brings: waiting, sessions that lapse, timer notifies.
 ghost use Rattle.rules.specs.Meaning.{meaning};
-ghost use Rattle.std.specs.Prelude.{◌≡◌, ◌≤◌, length};
 ghost use Rattle.slots.specs.Rows.{Distinct};
 ghost use Rattle.steps.specs.Cores.{Becomes, Does, Ready};
 ghost use Rattle.steps.specs.Living.{Lapses};

@@ -1,6 +1,6 @@
 // Wrappers of a session that arrive.
 ghost use Rattle.rules.specs.Meaning.{meaning};
-ghost use Rattle.std.specs.Prelude.{◌≡◌, ◌≤◌, length};
+ghost use Rattle.std.specs.Prelude.{◌≤◌, length};
 ghost use Rattle.sealer.specs.Limits.{largest_telegram};
 ghost use Rattle.steps.specs.Cores.{Does, Ready};
 ghost use Rattle.steps.specs.Opened.{Opens};
