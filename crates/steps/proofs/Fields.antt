@@ -3,7 +3,6 @@ use Rattle.std.proofs.Common.{◌≡◌, ℕ, List, Some, None, Option, Result, 
 use Rattle.octets.specs.Runs.{over}
 use Rattle.rules.specs.Calls.{Step, due}
 use Rattle.rules.specs.Meaning.{Meaning}
-use Rattle.rules.specs.Rules.{with_room}
 use Rattle.rules.specs.declared.answers.Answer.{Answer}
 use Rattle.rules.specs.declared.answers.Refusal.{Refusal}
 use Rattle.slots.proofs.Ruled.{lapsed_is_the_rule}
@@ -12,7 +11,7 @@ use Rattle.slots.specs.Places.{index_of}
 use Rattle.slots.specs.declared.place.Place.{Place}
 use Rattle.steps.specs.Cores.{Becomes, Does, model}
 use Rattle.steps.specs.Living.{Lapses}
-use Rattle.steps.specs.Buffers.{lending}
+use Rattle.steps.specs.Buffers.{lending, lent}
 use Rattle.steps.specs.Steps.{carrying, falling_due, next_lapsed}
 use Rattle.steps.specs.declared.state.Core.{Core}
 
@@ -30,7 +29,7 @@ does_same s t before after answer out out' e d =
     { answers = d.answers ∙ ap (λ (r : Step). r.answer) e; goes = subst (λ (r : Step). Becomes r.to before after) e d.goes; writes = d.writes ∙ ap (λ (r : Step). over r.written out) e }
 
 module _ (M : Meaning) (c : Core) where
-  -- due asks for room, and looks for a lapsed session under its shut name
-  pub due_is : (lot : ℕ) (out work : List ℕ) → carrying M (due lot (lending out work)) c ≡ with_room c.settings M (model c) (lending out work) (falling_due M lot c)
+  -- due is the step for what is due, where it looks for a lapsed session under its shut name
+  pub due_is : (lot : ℕ) (out work : List ℕ) → lent out work (falling_due M lot) c ≡ carrying M (due lot (lending out work)) c
   unfolding next_lapsed
   due_is lot out work = refl

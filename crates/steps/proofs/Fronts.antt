@@ -5,13 +5,11 @@ use Rattle.std.proofs.lemmas.Bool.{cond-false, le-leb}
 use Rattle.octets.specs.Runs.{over}
 use Rattle.frames.specs.Limits.{largest_frame}
 use Rattle.rules.specs.Calls.{Step, refuse}
-use Rattle.rules.specs.Meaning.{Meaning}
-use Rattle.rules.specs.Rules.{roomy, with_room}
 use Rattle.rules.specs.declared.answers.Answer.{Answer}
 use Rattle.rules.specs.declared.answers.Refusal.{Refusal}
 use Rattle.rules.specs.declared.answers.Refusal.TheVariants.{Buffers}
 use Rattle.slots.specs.Rows.{Distinct}
-use Rattle.steps.specs.Buffers.{lending}
+use Rattle.steps.specs.Buffers.{has_room, lent}
 use Rattle.steps.specs.Cores.{Does, model}
 use Rattle.steps.specs.declared.state.Core.{Core}
 use Rattle.steps.proofs.Fields.{does_same}
@@ -41,22 +39,20 @@ module _ (step : Core → Step) (before after : Core) (answer : Result Answer Re
         writes = ap (λ (xs : List ℕ). xs ++ drop largest_frame out) writes ∙ over_front (step before).written out largest_frame fits (ap length (sym writes) ∙ same);
       }
 
--- a call with room in both buffers does its step
-pub roomed : (M : Meaning) (call step : Core → Step) (before after : Core) (answer : Result Answer Refusal) (out work front front' : List ℕ)
-    → call before ≡ with_room before.settings M (model before) (lending out work) (step before)
+-- with room in both buffers the step is done
+pub roomed : (step : Core → Step) (before after : Core) (answer : Result Answer Refusal) (out work front front' : List ℕ)
     → largest_frame ≤ length work → largest_frame ≤ length out → front ≡ take largest_frame out → length (front' ++ drop largest_frame out) ≡ length out
-    → Does step before after answer front front' → Does call before after answer out (front' ++ drop largest_frame out)
-roomed M call step before after answer out work front front' e area fits is long d =
+    → Does step before after answer front front' → Does (lent out work step) before after answer out (front' ++ drop largest_frame out)
+roomed step before after answer out work front front' area fits is long d =
     let f = le-leb largest_frame (length out) fits in
     let a = le-leb largest_frame (length work) area in
-    let asks : call before ≡ step before = e ∙ rw (f, a) refl in
-    does_same step call before after answer out (front' ++ drop largest_frame out) (sym asks) (fronted step before after answer out front front' fits is long d)
+    let asks : lent out work step before ≡ step before = rw (f, a) refl in
+    does_same step (lent out work step) before after answer out (front' ++ drop largest_frame out) (sym asks) (fronted step before after answer out front front' fits is long d)
 
--- and one with no room is refused
-pub declined : (M : Meaning) (call step : Core → Step) (core : Core) (answer : Result Answer Refusal) (out work : List ℕ)
-    → call core ≡ with_room core.settings M (model core) (lending out work) (step core) → Distinct core.table.rows
-    → roomy core.settings M (lending out work) ≡ false → answer ≡ Err Buffers → Does call core core answer out out
-declined M call step core answer out work e apart no-room is =
-    let asks : refuse (model core) Buffers ≡ call core = sym (e ∙ cond-false (roomy core.settings M (lending out work)) (step core) (refuse (model core) Buffers) no-room) in
-    does_same (λ k. refuse (model k) Buffers) call core core answer out out asks
+-- and with no room it is refused
+pub declined : (step : Core → Step) (core : Core) (answer : Result Answer Refusal) (out work : List ℕ)
+    → Distinct core.table.rows → has_room out work ≡ false → answer ≡ Err Buffers → Does (lent out work step) core core answer out out
+declined step core answer out work apart no_room is =
+    let asks : refuse (model core) Buffers ≡ lent out work step core = sym (cond-false (has_room out work) (step core) (refuse (model core) Buffers) no_room) in
+    does_same (λ k. refuse (model k) Buffers) (lent out work step) core core answer out out asks
     (record { answers = is; goes = record { is = refl; settings_stay = refl; apart = apart }; writes = refl })
