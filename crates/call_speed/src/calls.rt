@@ -10,6 +10,7 @@ use gateway::Gateway;
 use octets::numbers::put_number;
 use octets::runs::put;
 use published::fips::KEY_A1 as KEY;
+use published::knx::AUTHENTICATE_START;
 use rules::answers::{Answer, Refusal};
 use rules::settings::{Settings, User};
 use sealer::LARGEST_TELEGRAM;
@@ -92,7 +93,7 @@ impl Line {
         put_number(&mut offer, 0, session);
         put(&mut offer, 34, KEY);
         let mut telegram = [0; 24];
-        put(&mut telegram, 0, b"\x06\x10\x09\x53\x00\x18\x00\x01");
+        put(&mut telegram, 0, AUTHENTICATE_START);
         let mac = mac_of_authenticate::<Knx<Aes128>>(KEY, 1, &[0; 32], &[0; 32]);
         put(&mut telegram, 8, &mac);
         let mut frame = [0; 62];

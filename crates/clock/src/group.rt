@@ -24,9 +24,9 @@ pub struct Group {
     pub timer: u64,
     // the last time that was sent
     pub sent: Option<u64>,
-    // time keeper, or time follower; a flag as in the rules' model
+    // time keeper, or time follower; an enum would have to be turned into the rules' flag in every clause
     pub keeper: bool,
-    // serial and tag of the frame to which a reply is wanted
+    // serial and tag of the frame to which a reply is wanted: plain numbers, in the form that is given
     pub wanted: Option<(u64, u16)>,
     // milliseconds until a timer notify is due
     pub countdown: u32,

@@ -83,13 +83,12 @@ fn one_octet_of_a_request(rt: HostRuntime) {
 
 #[test]
 fn published_request(rt: HostRuntime) -> Result<(), Fail> {
-    match read(&request()) {
-        Ok(Frame::Request { x }) => {
-            assert!(rt; *x == *knx::X);
-            Ok(())
-        },
-        _ => Err(Fail::new("no session request")),
-    }
+    let request = request();
+    let Ok(Frame::Request { x }) = read(&request) else {
+        return Err(Fail::new("no session request"));
+    };
+    assert!(rt; *x == *knx::X);
+    Ok(())
 }
 
 #[test]

@@ -34,6 +34,7 @@ fn every_length(rt: HostRuntime) -> Result<(), Fail> {
 fn sign_in(rt: HostRuntime) -> Result<(), Fail> {
     let sign = authenticate(knx::AUTHENTICATE).ok_or("no sign-in")?;
     assert!(rt; sign.user == 1 && *sign.mac == *knx::AUTHENTICATE_MAC);
+    // by place, as the place of the damage is what is tried
     for at in 0..7 {
         let mut octets = *knx::AUTHENTICATE;
         octets[at] ^= 0x80;

@@ -8,7 +8,7 @@ use Rattle.octets.specs.Numbers.{value, octets_of}
 use Rattle.octets.proofs.Laws.{value_of_octets}
 use Rattle.frames.specs.Limits.{wrapper_overhead}
 use Rattle.frames.specs.Headers.{part, kind, stated_length, stated_kind}
-use Rattle.frames.specs.Reading.{reading, by_header, wrapper_shape, notice_shape, a_wrapper, a_notice}
+use Rattle.frames.specs.Reading.{reading, by_header, wrapper_shape, notice_shape, a_wrapper}
 use Rattle.frames.specs.Sealing.{exchange_mac, exchange_data, zero_nonce}
 use Rattle.frames.specs.Telegrams.{is_good, sign_in_of}
 use Rattle.frames.specs.Writing.{nonce, wrapper_lead, notice_lead, notice, response, authenticate, authenticate_lead, response_lead}

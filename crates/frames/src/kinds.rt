@@ -20,7 +20,7 @@ impl TryFrom<u16> for Kind {
     ghost try_from_gives = { λ number kind. kind ≡ kind_of number };
 
     fn try_from(number: u16) -> Result<Kind, Unreadable> {
-        // the numbers stand here once more, since a pattern cannot name a discriminant
+        // the numbers stand here once more: a pattern names a discriminant only by a constant, and six of those are no plainer
         match number {
             0x0950 => Ok(Kind::Wrapper),
             0x0951 => Ok(Kind::Request),

@@ -1,4 +1,4 @@
-// Opening: a telegram is opened in a lent work area, and nowhere else.
+// Opening: a telegram is opened in a lent work area, and nowhere else. There is no heap, so its length is the answer.
 ghost use Rattle.std.specs.Prelude.{◌≡◌, [], is_some};
 ghost use Rattle.frames.specs.Opening.{fits_in, opened_area, opened_length};
 

@@ -53,7 +53,8 @@ pub enum Frame<'a> {
     Notice(Notice<'a>),
 }
 
-// Why an octet string is not read.
+// Why an octet string is not read. The numbers are those of the gateway's refusals, which a crate above has. `refusal` is a method and no
+// `From`, so that a call says what the number is.
 #[derive(Clone, Copy, PartialEq, Eq)]
 pub enum Unreadable {
     Header = 2,

@@ -1,4 +1,5 @@
-// Sealing: the frames that go out with a MAC, and the MAC that a user's sign-in has to have.
+// Sealing: the frames that go out with a MAC, and the MAC that a user's sign-in has to have. There is no heap: the output is lent, and
+// what puts a frame there answers its length.
 ghost use Rattle.std.specs.Prelude.{◌≡◌, ◌+◌, ◌≤◌, ◌++◌, length};
 ghost use Rattle.frames.specs.Limits.{notice_length, response_length, wrapper_overhead};
 ghost use Rattle.frames.specs.Sealing.{
@@ -34,7 +35,8 @@ pub fn seal_notice<S: Sealer>(key: &Block, stamp: Stamp, out: &mut [u8]) -> Opti
     put_parts(&lead, &nonce, &mac, out)
 }
 
-// The associated data of a session response and of a session authenticate.
+// The associated data of a session response and of a session authenticate. Here and below x and y stay two parameters: a struct of both
+// would be made for each call, to be taken apart here.
 fn exchange_octets(lead: &[u8; 8], x: &[u8; 32], y: &[u8; 32]) -> [u8; 40]
     ensures { result ≡ exchange_data lead.now x.now y.now }
 {
@@ -52,7 +54,6 @@ fn mac_of_exchange<S: Sealer>(key: &Block, lead: &[u8; 8], x: &[u8; 32], y: &[u8
     S::seal(key, &[0; 14], &exchange_octets(lead, x, y), &mut [])
 }
 
-// Here and below x and y stay two parameters: they come from two places, the request and the offer, and a struct of both would only be taken apart.
 // A session response, under the device code, put to the front of the output if that has the room.
 pub fn seal_response<S: Sealer>(
     key: &Block,

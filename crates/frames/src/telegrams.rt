@@ -12,8 +12,9 @@ use sealer::LARGEST_TELEGRAM;
 #[derive(Clone, Copy, PartialEq, Eq)]
 pub enum Telegram {
     Authenticate,
+    // with its number: a client may send any
     Status(u8),
-    // with its family
+    // with its family, of which any may come too
     Good(u8),
     Other,
 }

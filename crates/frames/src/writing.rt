@@ -1,4 +1,4 @@
-// Writing: the octets of the frames that go out.
+// Writing: the octets of the frames that go out. There is no heap: the output is lent, and what puts octets there answers their length.
 ghost use Rattle.std.specs.Prelude.{◌≡◌, ◌+◌, ◌≤◌, [], ◌∷◌, ◌++◌, length};
 ghost use Rattle.frames.specs.Limits.{largest_frame, no_session_length};
 ghost use Rattle.frames.specs.Kinds.{kind_number};
@@ -20,7 +20,8 @@ use crate::{
 };
 use octets::numbers::Number;
 
-// The six octets that every frame begins with.
+// The six octets that every frame begins with. The bound on the size is a clause here and in the two that follow: in a u16 it would need a
+// cast wherever one is given.
 fn header(kind: Kind, size: usize) -> [u8; 6]
     requires { size ≤ largest_frame }
     ensures { result ≡ header (kind_number kind) size }

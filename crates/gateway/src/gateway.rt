@@ -2,6 +2,7 @@
 //
 // Each call promises two things. Its rule: answer or refusal, the gateway after it, every octet of output and work area, on every
 // input. And the law: whatever calls led to the gateway as it came in, together with this call they keep the law over runs.
+// Output and work area are the host's, two slices that it lends to each call.
 ghost use Rattle.gateway.specs.Made.{EitherWay, Made, Unmade};
 ghost use Rattle.gateway.specs.Obeyed.{Promise};
 ghost use Rattle.rules.specs.Calls.{announce, arrive, due, hang_up, pass, send};

@@ -52,7 +52,7 @@ pub struct Event<'a> {
 }
 
 impl<S: Sealer> Gateway<S> {
-    // One call, with the buffers that it is lent.
+    // One call, with the buffers that it is lent. By cases and not as a closure: a call is a value, which a contract can list.
     pub fn carry_out(
         &mut self,
         call: Call,

@@ -1,6 +1,7 @@
 // Frames under the bench cipher, worked by hand. It XORs a block with the key, so in a MAC the nonce cancels, and the key cancels
 // too where the number of blocks is odd: what is left is the XOR of all blocks but the first, of the telegram's length and FF00,
 // and of the key where the number of blocks is even. A ciphertext is telegram XOR nonce, FF, 01 XOR key.
+// Number, serial and tag stand apart, and not in the library's stamp: nothing of the library makes these frames but its writing of octets.
 use crate::site::{GOOD, LONGEST, OWN, key_of};
 use octets::numbers::{Number, put_number};
 use octets::runs::{put, xor_into};

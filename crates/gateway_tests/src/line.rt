@@ -16,6 +16,7 @@ use std::test::*;
 // What buffers hold before each call.
 const FILL: u8 = 0xa5;
 
+// Steps and what is to be seen are values and no closures, so that a run is a table in its test.
 #[derive(Clone, Copy)]
 pub enum Step {
     // a session request arrives, with the offer of a session or with other octets
@@ -192,6 +193,7 @@ impl<S: Sealer> Line<S> {
         })
     }
 
+    // Each call by its own method, and not by carry_out: they are what is tested.
     fn take(&mut self, step: &Step) -> Result<Result<Answer, Refusal>, AllocError> {
         let heap = *self.out.allocator();
         let (out, work) = (self.out.as_mut_slice(), self.work.as_mut_slice());

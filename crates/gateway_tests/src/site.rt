@@ -9,7 +9,7 @@ pub const OWN: u64 = 0x00fa_0000_0001;
 
 pub const CLIENT: u64 = 0x00fa_0000_0002;
 
-// the last number, and the last time
+// the last number, and the last time; written out, since a test takes no limit from the library
 pub const LAST: u64 = 0xffff_ffff_ffff;
 
 // a good telegram, and one of the management family
@@ -84,7 +84,8 @@ pub fn key_of(session: u16) -> [u8; 16] {
     }
 }
 
-// Octets that state their length: a kind, then zeros.
+// Octets that state their length: a kind, then zeros. Other test crates make such octets and requests too, each in a few lines of its own:
+// a crate for those would be no plainer.
 pub fn stating(heap: Global, kind: u16, size: u16) -> Result<Vec<u8>, AllocError> {
     let mut header = *b"\x06\x10\x00\x00\x00\x00";
     put_number(&mut header, 2, kind);

@@ -40,7 +40,7 @@ impl Answer {
     }
 }
 
-// Why a call is refused: the question that was answered no.
+// Why a call is refused: the question that was answered no. `number` is a method and no `From`, so that a call says what the number is.
 #[derive(Clone, Copy, PartialEq, Eq)]
 pub enum Refusal {
     Buffers = 1,

@@ -5,7 +5,7 @@ use std::fmt;
 
 #[derive(Drop)]
 pub struct Book {
-    // deliveries alone
+    // deliveries alone, as they were answered: a struct of their own would repeat the fields of one variant
     entries: Vec<Answer>,
 }
 

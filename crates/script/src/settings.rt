@@ -74,6 +74,7 @@ impl Given {
             Setting::Serial(serial) => settings.serial = serial,
             Setting::Device(device) => settings.device = device,
             Setting::Group(group) => settings.group = group,
+            // a line with another user is not read, so there is a place
             Setting::User(place, hash) => {
                 if let Some(user) = settings.users.get_mut(place) {
                     *user = User {

@@ -36,6 +36,7 @@ impl Station {
         })
     }
 
+    // By cases: an item is a value, since a line is read whole before it acts.
     pub fn carry_out<W: Write>(&mut self, item: Item, output: &mut W) -> Result<(), Fault> {
         match item {
             Item::Setting(setting) => self.given.take(setting),

@@ -89,9 +89,9 @@ fn a_line_that_is_not_text(rt: HostRuntime) -> Result<(), Fail> {
     let heap = rt.alloc();
     let mut input: &[u8] = b"make\n# \xff\ntimer \xff\n";
     let mut output = Vec::new(heap);
-    let Err(stop) = script::run(heap, &mut input, &mut output) else {
-        return Err(Fail::new("read to the end"));
-    };
+    let stop = script::run(heap, &mut input, &mut output)
+        .err()
+        .ok_or("read to the end")?;
     assert!(rt; output.as_slice() == b"made\n# \xff\n".as_slice());
     assert!(rt; stop.to_string(heap)?.as_str() == "line 3: the line is not UTF-8 text");
     Ok(())

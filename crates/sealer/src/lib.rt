@@ -38,13 +38,16 @@ pub trait Sealer {
 
     ghost complete: { Complete ciphertext mac opened };
 
+    // Key, nonce, associated data and text stay apart, here and in mac.rt: they come from four places, and a struct of them would be made
+    // for each call and taken apart at once.
     // Turns the telegram into its ciphertext where it stands, and returns the MAC.
     fn seal(key: &Block, nonce: &Nonce, associated: &[u8], text: &mut [u8]) -> Block
         requires { length text.old ≤ largest_telegram }
         ensures ciphertext { text.new ≡ ciphertext key.now nonce.now associated.now text.old }
         ensures mac { result ≡ mac key.now nonce.now associated.now text.old };
 
-    // Turns the ciphertext into the telegram where it stands and says yes, or clears it and says no.
+    // Turns the ciphertext into the telegram where it stands and says yes, or clears it and says no. A bool and no Option, since the telegram
+    // stays with the caller, who lent its place.
     fn open(key: &Block, nonce: &Nonce, associated: &[u8], text: &mut [u8], given: &Block) -> bool
         requires { length text.old ≤ largest_telegram }
         ensures { Opened

@@ -14,7 +14,8 @@ use cipher::{Block, BlockCipher};
 use octets::numbers::Number;
 use octets::runs::xor_into;
 
-// CBC that takes its input octet by octet: `at` octets of the current block are XORed into the state already.
+// CBC that takes its input octet by octet: `at` octets of the current block are XORed into the state already. Not by chunks: the parts that
+// the MAC covers begin and end anywhere in a block, and to join them first would need a buffer for the longest telegram.
 #[derive(Drop)]
 struct Chain {
     state: Block,

@@ -17,6 +17,8 @@ pub struct Table {
     rows: [Slot; SLOTS],
 }
 
+// Places are numbers in this file alone; who holds the table has a `Place`.
+
 // The place of a session among rows.
 fn place_of(rows: &[Slot], number: u16) -> Option<usize>
     ensures { Finds rows.now number result }
@@ -58,6 +60,7 @@ fn least_lapsed(rows: &[Slot]) -> Option<usize>
     ensures within { IfSome result (λ j. j < length rows.now) }
     ensures small { IfSome result (λ j. (row rows.now j).number < session_numbers) }
 {
+    // turn by turn, as `least` goes: of min_by_key std says that no key lies beyond its pick, and not that it is the first such
     let mut first = None;
     for (at, slot) in rows.iter().enumerate() {
         if slot.has_lapsed() && precedes(rows, slot.number, first) {

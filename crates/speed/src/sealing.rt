@@ -3,11 +3,10 @@ use anyhow::ensure;
 use cipher::aes::Aes128;
 use octets::hex::Hex;
 use published::fips::KEY_A1;
+use published::knx::WRAPPER_START;
 use sealer::sealers::Knx;
 use sealer::{Nonce, Sealer};
 use std::time::Instant;
-
-const START: &[u8; 8] = b"\x06\x10\x09\x50\x00\x3e\x00\x01";
 
 const ROUNDS: u32 = 40_000;
 
@@ -18,8 +17,8 @@ fn seal_often(nonce: &mut Nonce, text: &mut [u8]) -> bool {
         return false;
     }
     for _ in 0..ROUNDS {
-        let mac = Knx::<Aes128>::seal(KEY_A1, nonce, START, text);
-        opened &= Knx::<Aes128>::open(KEY_A1, nonce, START, text, &mac);
+        let mac = Knx::<Aes128>::seal(KEY_A1, nonce, WRAPPER_START, text);
+        opened &= Knx::<Aes128>::open(KEY_A1, nonce, WRAPPER_START, text, &mac);
         nonce.copy_from_slice(&mac[0..14]);
     }
     opened

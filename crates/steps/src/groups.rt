@@ -24,7 +24,7 @@ use rules::limits::{GROUP, GROUP_USER, NUMBERS};
 use sealer::Sealer;
 
 impl Core {
-    // A frame with its stamp: true where it is not late.
+    // A frame with its stamp: true where it is not late. That its number is a time is a clause, here and below: anybody can make a stamp.
     fn hear(&mut self, stamp: Stamp, lot: u32) -> bool
         requires ready { Ready self.old }
         requires time { stamp.number < numbers }
@@ -88,7 +88,7 @@ impl Core {
         self.group.next_time()
     }
 
-    // A wrapper to the group; answers its length and its time.
+    // A wrapper to the group, into the lent output; answers its length and its time.
     fn seal_timed<S: Sealer>(
         &self,
         telegram: &[u8],

@@ -1,4 +1,4 @@
-// Frames that go out, into an output that has the room for every frame.
+// Frames that go out, into an output that has the room for every frame. It is lent, so each answers the length of its frame.
 // That a telegram is small enough stays a clause here and in callers: a type for it would wrap a lent slice at each call and say the same once more.
 ghost use Rattle.rules.specs.Meaning.{meaning};
 ghost use Rattle.std.specs.Prelude.{◌≡◌, ◌≤◌, length, Ok};

@@ -27,7 +27,7 @@ use sealer::Sealer;
 use slots::place::Place;
 use slots::slot::{Slot, State};
 
-// An own wrapper of a session around a telegram; answers its length and its number.
+// An own wrapper of a session around a telegram, into the lent output; answers its length and its number.
 fn seal_own<S: Sealer>(
     settings: &Settings,
     slot: &Slot,

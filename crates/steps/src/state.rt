@@ -1,4 +1,5 @@
-// The fields of a gateway.
+// The fields of a gateway. That they are `Ready` is a clause of each step: a step breaks it and mends it again by itself, and no ghost field
+// can be a record. `Gateway` holds it for all calls.
 ghost use Rattle.rules.specs.Making.{acceptable};
 ghost use Rattle.rules.specs.Model.{new};
 ghost use Rattle.steps.specs.Cores.{Ready, model};

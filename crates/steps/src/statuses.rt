@@ -15,6 +15,7 @@ pub enum Status {
 // The number of a close, for a pattern.
 pub const CLOSE: u8 = Status::Close as u8;
 
+// A method and no `From`, so that a call says what the number is.
 impl Status {
     pub fn number(self) -> u8
         ensures { result ≡ number_of self }

@@ -13,7 +13,7 @@ use frames::reading::Wrapper;
 use rules::answers::{Answer, Refusal};
 use sealer::Sealer;
 
-// The length of the telegram that a wrapper opens to; it stands in front of the work area.
+// The length of the telegram that a wrapper opens to; it stands in front of the work area, which is lent.
 pub(crate) fn open<S: Sealer>(
     key: &Block,
     wrapper: Wrapper,
