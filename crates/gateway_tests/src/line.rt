@@ -16,7 +16,8 @@ use std::test::*;
 // What buffers hold before each call.
 const FILL: u8 = 0xa5;
 
-// Steps and what is to be seen are values and no closures, so that a run is a table in its test.
+// Steps and what is to be seen are values and no closures, so that a run is a table in its test; and number, serial and tag stand apart,
+// so that a row is short.
 #[derive(Clone, Copy)]
 pub enum Step {
     // a session request arrives, with the offer of a session or with other octets

@@ -84,8 +84,8 @@ pub fn key_of(session: u16) -> [u8; 16] {
     }
 }
 
-// Octets that state their length: a kind, then zeros. Other test crates make such octets and requests too, each in a few lines of its own:
-// a crate for those would be no plainer.
+// Octets that state their length: a kind, then zeros. Other tests and programs make such octets, requests and offers too, each with what
+// it needs behind the header and in a few lines: a crate for those would be no plainer.
 pub fn stating(heap: Global, kind: u16, size: u16) -> Result<Vec<u8>, AllocError> {
     let mut header = *b"\x06\x10\x00\x00\x00\x00";
     put_number(&mut header, 2, kind);
@@ -95,12 +95,16 @@ pub fn stating(heap: Global, kind: u16, size: u16) -> Result<Vec<u8>, AllocError
     Ok(frame)
 }
 
-pub fn offer(session: u16) -> [u8; 50] {
+fn offer_of(session: u16, y: &[u8; 32], key: &[u8; 16]) -> [u8; 50] {
     let mut offer = [0; 50];
     put_number(&mut offer, 0, session);
-    put(&mut offer, 2, &[0x0b; 32]);
-    put(&mut offer, 34, &key_of(session));
+    put(&mut offer, 2, y);
+    put(&mut offer, 34, key);
     offer
+}
+
+pub fn offer(session: u16) -> [u8; 50] {
+    offer_of(session, &[0x0b; 32], &key_of(session))
 }
 
 pub fn published_request() -> [u8; 46] {
@@ -110,11 +114,7 @@ pub fn published_request() -> [u8; 46] {
 }
 
 pub fn published_offer() -> [u8; 50] {
-    let mut offer = [0; 50];
-    put(&mut offer, 0, b"\x00\x01");
-    put(&mut offer, 2, knx::Y);
-    put(&mut offer, 34, knx::SESSION_KEY);
-    offer
+    offer_of(1, knx::Y, knx::SESSION_KEY)
 }
 
 // A site with the keys of the published session, and with the serial of its server.

@@ -26,7 +26,8 @@ impl AnyGateway {
         Ok(made)
     }
 
-    // Four arms alike, each at a type of its own: a gateway lent as a `dyn` would need a trait and an impl beside them.
+    // Four arms alike, here and in `timer`, each at a type of its own: no function may make a `dyn` value and hand it out, and one that lent
+    // it to a closure would need a trait and an impl beside these arms.
     pub fn carry_out(
         &mut self,
         call: Call,

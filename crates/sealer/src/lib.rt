@@ -38,8 +38,8 @@ pub trait Sealer {
 
     ghost complete: { Complete ciphertext mac opened };
 
-    // Key, nonce, associated data and text stay apart, here and in mac.rt: they come from four places, and a struct of them would be made
-    // for each call and taken apart at once.
+    // Key, nonce, associated data and text stay apart, here and in mac.rt: they come from up to four places, and a struct of them would be
+    // made for each call and taken apart at once.
     // Turns the telegram into its ciphertext where it stands, and returns the MAC.
     fn seal(key: &Block, nonce: &Nonce, associated: &[u8], text: &mut [u8]) -> Block
         requires { length text.old ≤ largest_telegram }

@@ -114,7 +114,7 @@ pub fn same_mac(made: &Block, given: &Block) -> bool
     difference(made, given) == 0
 }
 
-// Keeps a telegram whose MAC is the one given, and clears any other.
+// Keeps a telegram whose MAC is the one given, and clears any other. A bool, as the sealer's `open` answers: the telegram stays where it is.
 pub fn confirm<C: BlockCipher>(
     prepared: &C::Prepared,
     nonce: &Nonce,

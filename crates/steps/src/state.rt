@@ -1,5 +1,5 @@
 // The fields of a gateway. That they are `Ready` is a clause of each step: a step breaks it and mends it again by itself, and no ghost field
-// can be a record. `Gateway` holds it for all calls.
+// can be a record. `Gateway` holds it for all calls. That a session is `Standing` at a place is a clause too, since it is true of both together.
 ghost use Rattle.rules.specs.Making.{acceptable};
 ghost use Rattle.rules.specs.Model.{new};
 ghost use Rattle.steps.specs.Cores.{Ready, model};
