@@ -48,10 +48,11 @@ Distinct rows = distinct rows ≡ true
 abbrev pub free_row : Slot
 free_row = record { number = 0; key = replicate 16 0; x = replicate 32 0; y = replicate 32 0; last = None; own = 0; state = Unsigned; idle = 0 }
 
--- the row at a place
+-- what stands for a row past the end
 abbrev pub no_row : Slot
 no_row = record { number = 0; key = []; x = []; y = []; last = None; own = 0; state = Unsigned; idle = 0 }
 
+-- the row at a place
 abbrev pub row : List Slot → ℕ → Slot
 row rows i = slice_index_or rows i no_row
 

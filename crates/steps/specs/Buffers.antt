@@ -16,6 +16,7 @@ lending out work = record { out = out; work = work }
 abbrev pub wiped : List ℕ → List ℕ
 wiped work = replicate (length work) 0
 
+-- whether there is room in both for every frame and telegram; the rules' `roomy` is the same question, under settings and sealer
 abbrev pub has_room : List ℕ → List ℕ → Bool
 has_room out work = nat_le largest_frame (length out) && nat_le largest_frame (length work)
 
