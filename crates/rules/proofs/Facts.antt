@@ -1,5 +1,5 @@
 -- Small facts on options, tests and lists. Assumes nothing.
-use Rattle.std.proofs.Common.{◌≡◌, ℕ, suc, ◌<◌, ◌≤◌, false, List, [], ◌∷◌, length, get_or, take, drop, Some, None, Ok, Option, Result, refl, ap}
+use Rattle.std.proofs.Common.{◌≡◌, ℕ, suc, ◌<◌, ◌≤◌, false, List, [], ◌∷◌, length, get_or, take, drop, Some, None, Ok, Err, Option, Result, refl, ap, arith}
 use Rattle.std.proofs.lemmas.List.{take_at}
 use Rattle.std.proofs.lemmas.Bool.{both_ways}
 use Rattle.std.specs.List.{AllByRecursion}
@@ -12,6 +12,9 @@ use Rattle.rules.specs.Law.{delivered}
 
 pub some_some : {A : Type 0} (x y : A) → Some x ≡ Some y → x ≡ y
 some_some {A} x y p = cc
+
+pub err_ok : {A E : Type 0} (e : E) (x : A) → Err e ≡ Ok x → ⊥
+err_ok {A} {E} e x p = let z : ◌≡◌ {A = ℕ} 0 1 = cc in omega arith
 
 pub ok_ok : {A E : Type 0} (x y : A) → ◌≡◌ {A = Result A E} (Ok x) (Ok y) → x ≡ y
 ok_ok {A} {E} x y p = cc

@@ -6,7 +6,7 @@ use Rattle.octets.specs.Runs.{xor}
 use Rattle.sealer.specs.Counter.{counter, stream}
 
 -- XOR with two runs, one after the other
-xor_append : (xs b r : List ℕ) → xor xs (b ++ r) ≡ take (length b) (xor xs b) ++ xor (drop (length b) (xor xs b)) r
+pub xor_append : (xs b r : List ℕ) → xor xs (b ++ r) ≡ take (length b) (xor xs b) ++ xor (drop (length b) (xor xs b)) r
 xor_append [] [] r = refl
 xor_append [] (y ∷ b) r = refl
 xor_append (x ∷ xs) [] r = refl
